@@ -1,0 +1,5 @@
+pub mod Bytes
+pub mod Bits
+pub mod Numbers
+pub mod Shapes
+pub mod Writing
