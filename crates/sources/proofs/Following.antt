@@ -83,11 +83,11 @@ mark-change : (tb : Table) (c : Call) (r : ℕ) → length (tb .marks) ≡ 2 ^ (
 mark-change tb (Size k) r h b = getD-replicate (2 ^ k) r Off Off b
 mark-change tb (MarkRow row c) r h b =
     elim (cases-eq r row) [
-    inl e ↦
-        let l : row < length (tb .marks) = omega arith in
-        ap (λ (j : ℕ). getD (set (tb .marks) row (entered c)) j Off) e ∙ getD-set-same (tb .marks) row (entered c) Off l
-        ∙ sym (ap (λ (t : Bool). cond t (entered c) (markAt tb r)) (eq-eqb r row e))
-    | inr n ↦ getD-set-other (tb .marks) row r (entered c) Off n ∙ sym (ap (λ (t : Bool). cond t (entered c) (markAt tb r)) (ne-eqb r row n))
+      | inl e ↦
+          let l : row < length (tb .marks) = omega arith in
+          ap (λ (j : ℕ). getD (set (tb .marks) row (entered c)) j Off) e ∙ getD-set-same (tb .marks) row (entered c) Off l
+          ∙ sym (ap (λ (t : Bool). cond t (entered c) (markAt tb r)) (eq-eqb r row e))
+      | inr n ↦ getD-set-other (tb .marks) row r (entered c) Off n ∙ sym (ap (λ (t : Bool). cond t (entered c) (markAt tb r)) (ne-eqb r row n))
     ]
 mark-change tb (Sweep m l c) r h b =
     let k : r < length (tb .marks) = omega arith in
@@ -110,14 +110,14 @@ follow tb before c a None e =
     record {
       inputs = i ∙ sym (inputs-accepted before c e′);
       full = full-change tb c (a .full);
-      marks = λ r h. mark-change tb c r (a .full) h ∙ remark-same c (tb .inputs) r _ _ (a .marks r) (subst (λ (n : ℕ). r < 2 ^ n) (inputs-change tb c) h) ∙ sym (mark-accepted before c e′ r)
+      marks = λ r h. mark-change tb c r (a .full) h ∙ remark-same c (tb .inputs) r _ _ (a .marks r) (subst (λ (n : ℕ). r < 2 ^ n) (inputs-change tb c) h) ∙ sym (mark-accepted before c e′ r);
     }
 follow tb before c a (Some x) e =
     let e′ : breaks (inputsAfter before) c ≡ Some x = ap (λ (n : ℕ). breaks n c) (sym (a .inputs)) ∙ e in
     record {
       inputs = a .inputs ∙ sym (inputs-refused before c x e′);
       full = a .full;
-      marks = λ r h. a .marks r h ∙ sym (mark-refused before c x e′ r)
+      marks = λ r h. a .marks r h ∙ sym (mark-refused before c x e′ r);
     }
 
 pub agrees-next : (tb u : Table) (before : List Call) (c : Call) → Agrees tb before → u ≡ settled (breaks (tb .inputs) c) tb (changed tb c) → Agrees u (c ∷ before)
@@ -181,8 +181,8 @@ faithful calls outcomes e =
     record {
       count = ap length e ∙ length-answers [] calls;
       looks = λ before after row s h. at before (Look row) after s
-        ∙ ap (λ (b : Bool). concluded (cond b (Some NoSuchRow) None) (Found (markAfter (reverse before) row))) (lt-leb (2 ^ inputsAfter (reverse before)) row h);
-      refusals = λ before after c x s b. at before c after s ∙ ap (λ (o : Option Refusal). concluded o (given c (markAfter (reverse before)))) b
+          ∙ ap (λ (b : Bool). concluded (cond b (Some NoSuchRow) None) (Found (markAfter (reverse before) row))) (lt-leb (2 ^ inputsAfter (reverse before)) row h);
+      refusals = λ before after c x s b. at before c after s ∙ ap (λ (o : Option Refusal). concluded o (given c (markAfter (reverse before)))) b;
     }
   where
     at : (before : List Call) (c : Call) (after : List Call) → calls ≡ before ++ c ∷ after → getD outcomes (length before) Done ≡ answer (reverse before) c

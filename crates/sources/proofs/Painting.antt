@@ -67,8 +67,8 @@ pub swept-marks : (n k a b a′ b′ : ℕ) (m m′ : Mark) (xs ys zs : List Mar
 swept-marks n k a b a′ b′ m m′ xs ys zs e h f g q w =
     let z : k - 0 ≡ 2 ^ n = omega arith in
     let v : ys ≡ painted (agrees a′ b′) m′ 0 (take (2 ^ n) xs) =
-        w ∙ ap (λ (j : ℕ). painted (agrees a b) m 0 (take j xs)) z
-        ∙ ap₂ (λ (x y : ℕ). painted (agrees x y) m 0 (take (2 ^ n) xs)) f g
-        ∙ ap (λ (x : Mark). painted (agrees a′ b′) x 0 (take (2 ^ n) xs)) (sym q) in
+    w ∙ ap (λ (j : ℕ). painted (agrees a b) m 0 (take j xs)) z
+    ∙ ap₂ (λ (x y : ℕ). painted (agrees x y) m 0 (take (2 ^ n) xs)) f g
+    ∙ ap (λ (x : Mark). painted (agrees a′ b′) x 0 (take (2 ^ n) xs)) (sym q) in
     let l : length ys ≡ 2 ^ n = ap length v ∙ length-painted (agrees a′ b′) m′ 0 (take (2 ^ n) xs) ∙ length-take-le (2 ^ n) xs h in
     take-at ys zs (2 ^ n) l ∙ v

@@ -75,6 +75,6 @@ answers before (c ∷ cs) = answer before c ∷ answers (c ∷ before) cs
 pub record Faithful (calls : List Call) (outcomes : List Outcome) : Type 0 where
   pub count : length outcomes ≡ length calls
   pub looks : (before after : List Call) (row : ℕ) → calls ≡ before ++ Look row ∷ after → row < 2 ^ inputsAfter (reverse before)
-    → getD outcomes (length before) Done ≡ Found (markAfter (reverse before) row)
+      → getD outcomes (length before) Done ≡ Found (markAfter (reverse before) row)
   pub refusals : (before after : List Call) (c : Call) (e : Refusal) → calls ≡ before ++ c ∷ after → breaks (inputsAfter (reverse before)) c ≡ Some e
-    → getD outcomes (length before) Done ≡ Refused e
+      → getD outcomes (length before) Done ≡ Refused e

@@ -58,8 +58,8 @@ module _ (t : Term) (r : ℕ) where
       let k = bit-lt r i in
       let j = bit-lt (t .mask) i in
       elim (cases-eq (bit (t .mask) i) 1) [
-      inl e ↦ let z = f i (T-eqb (bit (t .mask) i) 1 e) in omega arith
-      | inr n ↦ omega arith
+        | inl e ↦ let z = f i (T-eqb (bit (t .mask) i) 1 e) in omega arith
+        | inr n ↦ omega arith
       ]
 
   back : ((i : ℕ) → T (reads t i) → bit r i ≡ bit (t .levels) i) → T (holds t r)

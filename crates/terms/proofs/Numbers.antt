@@ -19,7 +19,7 @@ same-term t u p q =
       mask = p i;
       levels = q i;
       within = isProp→PathP (λ j. bitAnd (q j) (p j) ≡ q j) (λ j. ℕ-set (bitAnd (q j) (p j)) (q j)) (t .within) (u .within) i;
-      byte = isProp→PathP (λ j. p j < 256) (λ j. le-prop {n = suc (p j)} {m = 256}) (t .byte) (u .byte) i
+      byte = isProp→PathP (λ j. p j < 256) (λ j. le-prop {n = suc (p j)} {m = 256}) (t .byte) (u .byte) i;
     }
 
 -- the weight, one input after the other from the lowest
@@ -58,7 +58,7 @@ number-horner t = ap₂ _+_ (weight-horner (t .mask) (t .byte)) (weight-horner (
 pub numbers-differ : Numbers-differ
 numbers-differ t u e =
     let p = horner-tells 8 (t .mask) (t .levels) (u .mask) (u .levels) (t .byte) (levels-byte t) (u .byte) (levels-byte u) (t .within) (u .within)
-              (sym (number-horner t) ∙ e ∙ number-horner u) in
+    (sym (number-horner t) ∙ e ∙ number-horner u) in
     same-term t u (p .0) (p .1)
 
 pub numbers-bounded : Numbers-bounded

@@ -58,8 +58,8 @@ impl TruthTable {
         if inputs < 1 || inputs > 8 {
             return Err(Refusal::InputsOutOfRange);
         }
-        self.inputs = inputs;
-        self.marks = [Mark::Off; 256];
+        let marks = [Mark::Off; 256];
+        *self = TruthTable { inputs, marks };
         Ok(())
     }
 

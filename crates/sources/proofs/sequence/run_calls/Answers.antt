@@ -5,6 +5,7 @@ use native.Mathlib.Numerals.{add-one}
 use lib.ListN.{getD}
 use Rattle.sources.specs.declared.call.Call.{Call}
 use Rattle.sources.specs.declared.call.Call.the-variants.{Size}
+use Rattle.std.specs.Of.Vec.{vec-items}
 use Rattle.sources.specs.Calls.{table}
 use Rattle.sources.specs.declared.call.Outcome.{Outcome}
 use Rattle.sources.specs.Model.{answers}
@@ -21,11 +22,12 @@ loop-call-again c =
     let i : ℕ = c .loop-call .call-index in
     let next : i + 1 ≡ suc i = add-one i in
     let a = c .loop-call .inv .1 in
-    let told = c .call .ensures .result ∙ answer-same _ (soFar i calls) (getD calls i (Size 0)) a in
-    rw next
-    (answers-more calls i (Size 0) _ _ (c .call .result) (c .loop-call-test .taken) (c .in-Continue-push .ensures tt .items) told (c .loop-call .inv .0),
-     subst (λ (b : List Call). Agrees (table (c .call .last .self)) b) (sym (so-far-more calls i (Size 0) (c .loop-call-test .taken)))
-       (agrees-next (table (c .loop-call .truth)) _ (soFar i calls) (getD calls i (Size 0)) a (c .call .ensures .after)))
+    let told = c .call .ensures .result ∙ answer-same (table (c .loop-call .truth)) (soFar i calls) (getD calls i (Size 0)) a in
+    rw next (
+      answers-more calls i (Size 0) (vec-items (c .loop-call .outcomes)) (vec-items (c .push .last .self)) (c .call .result) (c .loop-call-test .taken) (c .in-Continue-push .ensures tt .items) told (c .loop-call .inv .0),
+      subst (λ (b : List Call). Agrees (table (c .call .last .self)) b) (sym (so-far-more calls i (Size 0) (c .loop-call-test .taken)))
+          (agrees-next (table (c .loop-call .truth)) (table (c .call .last .self)) (soFar i calls) (getD calls i (Size 0)) a (c .call .ensures .after)),
+    )
 
 pub returns : need.returns
 returns c =

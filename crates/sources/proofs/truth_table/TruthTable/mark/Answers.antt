@@ -16,5 +16,5 @@ returns c =
     let e = mark-passes n (c .args .row) (c .args .code) h (k .0) in
     record {
       result = rw e refl;
-      after = rw (e, k .1) (table-eq n _ _ (take-set-lt (2 ^ n) (c .args .self .now .marks) (c .args .row) (c .in-Continue-mark .mark) h))
+      after = rw (e, k .1) (table-eq n _ _ (take-set-lt (2 ^ n) (c .args .self .now .marks) (c .args .row) (c .in-Continue-mark .mark) h));
     }

@@ -23,5 +23,5 @@ returns c =
     record {
       result = rw e refl;
       after = rw e (table-eq n _ _ (swept-marks n (c .rows-rows .result) _ _ (c .args .mask) (c .args .levels) _ (entered (c .args .code)) marks _ _
-        (c .rows-rows .ensures) room (t .0) (t .1) (k .1) (c .paint .ensures)))
+          (c .rows-rows .ensures) room (t .0) (t .1) (k .1) (c .paint .ensures)));
     }

@@ -18,14 +18,14 @@ loop-row-again c =
     let row : ℕ = c .loop-row .row in
     let h = ap p (zero-add row) ∙ sym (c .holds .ensures .value) in
     let next : begun p (c .args .mark) (suc row) 0 (c .args .marks .now) ≡ begun p (c .args .mark) (row + 1) 0 (c .args .marks .now) =
-        ap (λ (k : ℕ). begun p (c .args .mark) k 0 (c .args .marks .now)) (sym (add-one row)) in
+    ap (λ (k : ℕ). begun p (c .args .mark) k 0 (c .args .marks .now)) (sym (add-one row)) in
     elim (c .if-holds .came) [
-    then-holds w ↦
-        w .marks-is ∙ ap (λ (ms : List Mark). set ms row (c .args .mark)) (c .loop-row .inv)
-        ∙ begun-in p (c .args .mark) row 0 (c .args .marks .now) (h ∙ w .if-holds .taken) ∙ next
-    | else-holds w ↦
-        w .marks-is ∙ c .loop-row .inv
-        ∙ begun-out p (c .args .mark) row 0 (c .args .marks .now) (h ∙ w .if-holds .left) ∙ next
+      | then-holds w ↦
+          w .marks-is ∙ ap (λ (ms : List Mark). set ms row (c .args .mark)) (c .loop-row .inv)
+          ∙ begun-in p (c .args .mark) row 0 (c .args .marks .now) (h ∙ w .if-holds .taken) ∙ next
+      | else-holds w ↦
+          w .marks-is ∙ c .loop-row .inv
+          ∙ begun-out p (c .args .mark) row 0 (c .args .marks .now) (h ∙ w .if-holds .left) ∙ next
     ]
 
 pub returns : need.returns

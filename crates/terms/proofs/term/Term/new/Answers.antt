@@ -16,7 +16,7 @@ returns-then-levels-mask c = (refl, no-term-level (c .args .inputs) (c .args .ma
 pub returns : need.returns
 returns c =
     let fits : c .args .mask < 2 ^ c .args .inputs = elim (c .else-inputs-lt8 .came) [
-        else-inputs-lt8·by·then-inputs-lt8·else-mask-inputs-ne0 w ↦ shift-lt (c .args .inputs) (c .args .mask) (w .if-mask-inputs-ne0 .left)
-        | else-inputs-lt8·by·else-inputs-lt8 w ↦ omega (arith, pow-mono {i = 8} {j = c .args .inputs} (w .if-inputs-lt8 .left))
-        ] in
+      | else-inputs-lt8·by·then-inputs-lt8·else-mask-inputs-ne0 w ↦ shift-lt (c .args .inputs) (c .args .mask) (w .if-mask-inputs-ne0 .left)
+      | else-inputs-lt8·by·else-inputs-lt8 w ↦ omega (arith, pow-mono {i = 8} {j = c .args .inputs} (w .if-inputs-lt8 .left))
+    ] in
     (refl, refl, is-term (c .args .inputs) (c .args .mask) (c .args .levels) fits (c .if-levels-mask .left))
