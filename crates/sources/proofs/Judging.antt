@@ -5,7 +5,7 @@ use mathlib.Core.Logic.{_⊎_, inl, inr}
 use mathlib.Core.Bool.{Bool, true, false, cond, not, _&&_, _||_}
 use Prim.Native.Nat.{ℕ, zero, suc, _^_, _<_, _≤_}
 use native.Mathlib.Omega.{arith}
-use lib.Dec.{T, leb, ltb}
+use lib.Dec.{leb, ltb}
 use lib.ListN.{take, replicate}
 use Rattle.std.proofs.shelf.Tests.{lt-leb, le-ltb, and-parts}
 use Rattle.std.specs.Options.{isSome, valueOr}
@@ -22,10 +22,6 @@ use Rattle.terms.specs.Rules.{markByCode}
 use Rattle.terms.specs.Terms.{isTerm}
 use Rattle.sources.specs.Rules.{sizeBreaks, lookBreaks, markBreaks, sweepBreaks}
 use Rattle.sources.specs.Calls.{entered}
-
-T-true : (b : Bool) → T b → b ≡ true
-T-true true t = refl
-T-true false t = absurd t
 
 pub size-passes : (n : ℕ) → 1 ≤ n → n ≤ 8 → sizeBreaks n ≡ None
 size-passes n a b = rw (le-ltb n 1 a, le-ltb 8 n b) refl
@@ -54,5 +50,5 @@ mark-passes n row c h e = rw (lt-leb (2 ^ n) row h, e) refl
 pub mark-unnamed : (n row c : ℕ) → row < 2 ^ n → isSome (withCode c) ≡ false → markBreaks n row c ≡ Some NoSuchMark
 mark-unnamed n row c h e = rw (lt-leb (2 ^ n) row h, e) refl
 
-pub sweep-passes : (n m l c : ℕ) → T (isTerm n m l) → isSome (withCode c) ≡ true → sweepBreaks n m l c ≡ None
-sweep-passes n m l c h e = rw (T-true (isTerm n m l) h, e) refl
+pub sweep-passes : (n m l c : ℕ) → true ≡ isTerm n m l → isSome (withCode c) ≡ true → sweepBreaks n m l c ≡ None
+sweep-passes n m l c h e = rw (← h, e) refl

@@ -28,6 +28,11 @@ markBreaks n row c = cond (leb (2 ^ n) row) (Some NoSuchRow) (cond (isSome (with
 abbrev pub sweepBreaks : ℕ → ℕ → ℕ → ℕ → Option Refusal
 sweepBreaks n m l c = cond (isTerm n m l) (cond (isSome (withCode c)) None (Some NoSuchMark)) (Some MalformedTerm)
 
+-- the first of two rules that is broken
+abbrev pub first : Option Refusal → Option Refusal → Option Refusal
+first None rest = rest
+first (Some e) rest = Some e
+
 -- what a call gives: the refusal where a rule is broken, else the result
 abbrev pub judged : {A : Type 0} → Option Refusal → A → Result A Refusal
 judged None a = Ok a

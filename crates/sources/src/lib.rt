@@ -1,69 +1,15 @@
-// Where switching functions come from: the truth table, and what may be called on one.
+// Where switching functions come from: the interface, the truth table and the term list.
 pub mod call;
 pub mod sequence;
+pub mod source;
+pub mod term_list;
 pub mod truth_table;
 
 pub use call::Call;
 pub use call::Outcome;
 pub use sequence::run_calls;
+pub use source::Source;
+pub use term_list::TermList;
+pub use term_list::source::TermListSource;
 pub use truth_table::TruthTable;
-
-#[cfg(test)]
-mod tests {
-    use super::*;
-    use crate::call::OutcomeDebug;
-    use crate::call::OutcomePartialEq;
-    use std::test::*;
-    use terms::Mark;
-    use terms::Refusal;
-    use terms::mark::MarkDebug;
-    use terms::mark::MarkPartialEq;
-    use terms::refusal::RefusalDebug;
-    use terms::refusal::RefusalPartialEq;
-
-    #[test]
-    fn eight_inputs() -> Result<(), Fail> {
-        let mut truth = TruthTable::new();
-        truth.size(8)?;
-        truth.sweep(0b1000_0001, 0b1000_0000, 1)?;
-        truth.mark(255, 2)?;
-        check_eq(truth.look(128)?, Mark::On)?;
-        check_eq(truth.look(254)?, Mark::On)?;
-        check_eq(truth.look(129)?, Mark::Off)?;
-        check_eq(truth.look(255)?, Mark::Free)?;
-        check_eq(truth.look(256), Err(Refusal::NoSuchRow))?;
-        truth.size(8)?;
-        check_eq(truth.look(254)?, Mark::Off)
-    }
-
-    // Where two rules are broken, the first in the order is told.
-    #[test]
-    fn refusals_in_order() -> Result<(), Fail> {
-        let mut truth = TruthTable::new();
-        check_eq(truth.size(0), Err(Refusal::InputsOutOfRange))?;
-        check_eq(truth.size(9), Err(Refusal::InputsOutOfRange))?;
-        check_eq(truth.mark(2, 3), Err(Refusal::NoSuchRow))?;
-        check_eq(truth.mark(1, 3), Err(Refusal::NoSuchMark))?;
-        check_eq(truth.sweep(2, 0, 3), Err(Refusal::MalformedTerm))?;
-        check_eq(truth.sweep(1, 1, 3), Err(Refusal::NoSuchMark))?;
-        check_eq(truth.look(1)?, Mark::Off)
-    }
-
-    #[test]
-    fn a_sequence(rt: LibcRuntime) -> Result<(), Fail> {
-        let calls = [
-            Call::Mark { row: 1, code: 1 },
-            Call::Look { row: 1 },
-            Call::Size { inputs: 3 },
-            Call::Look { row: 1 },
-            Call::Look { row: 8 },
-        ];
-        let outcomes = run_calls(rt.alloc(), &calls)?;
-        check(outcomes.len() == 5)?;
-        check_eq(outcomes[0], Outcome::Done)?;
-        check_eq(outcomes[1], Outcome::Found(Mark::On))?;
-        check_eq(outcomes[2], Outcome::Done)?;
-        check_eq(outcomes[3], Outcome::Found(Mark::Off))?;
-        check_eq(outcomes[4], Outcome::Refused(Refusal::NoSuchRow))
-    }
-}
+pub use truth_table::source::TruthTableSource;

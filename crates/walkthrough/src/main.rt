@@ -1,9 +1,19 @@
 // Takes real duty tables of the mill from the first entry to the finished table, and says what took place.
+use layers::Cofactor;
+use layers::CofactorSource;
+use layers::Complement;
+use layers::ComplementSource;
 use sources::Call;
 use sources::Outcome;
+use sources::Source;
+use sources::TermList;
+use sources::TermListSource;
 use sources::TruthTable;
+use sources::TruthTableSource;
 use std::io;
+use terms::Failure;
 use terms::Mark;
+use terms::Refusal;
 
 const OFF: usize = 0;
 
@@ -13,7 +23,9 @@ const FREE: usize = 2;
 
 fn main(rt: LibcRuntime) -> io::Result<()> {
     lead(&rt)?;
-    spill(&rt)
+    let spill = spill(&rt)?;
+    compare(&rt, &spill)?;
+    pile(&rt, spill)
 }
 
 // The gate leads when the stream runs and the basin is not up; with the basin up it makes no odds.
@@ -45,7 +57,7 @@ fn lead(rt: &LibcRuntime) -> io::Result<()> {
 
 // The spillway opens in a flood, and when the pond is high with the stream running. A flood with the pond not high,
 // and a pond both high and low, cannot arise.
-fn spill(rt: &LibcRuntime) -> io::Result<()> {
+fn spill(rt: &LibcRuntime) -> io::Result<TruthTable> {
     rt.println("Gate `spill`: opens in a flood, and when the pond is high and the stream runs.")?;
     let mut truth = TruthTable::new();
     let calls = [
@@ -81,7 +93,64 @@ fn spill(rt: &LibcRuntime) -> io::Result<()> {
         Call::Look { row: 16 },
     ];
     enter(rt, &mut truth, &calls)?;
-    show(rt, &truth, &["flood", "high", "low", "run"], "spill")
+    show(rt, &truth, &["flood", "high", "low", "run"], "spill")?;
+    Ok(truth)
+}
+
+// The same table as two lists of terms: the ON terms, and the terms of what cannot arise.
+fn compare(rt: &LibcRuntime, truth: &TruthTable) -> io::Result<()> {
+    rt.println("The same table as two lists of terms:")?;
+    let mut list = TermList::new(rt.alloc());
+    let on = [(0b1110, 0b1100), (0b1111, 0b0101)];
+    let free = [(0b1100, 0b1000), (0b0110, 0b0110)];
+    print_fill(rt, list.fill(rt.alloc(), 4, &[(0b0100, 0b1000)], &free))?;
+    print_fill(rt, list.fill(rt.alloc(), 4, &on, &free))?;
+    let differing = differing_rows(truth, &list);
+    println!(rt, "  rows that differ from the truth table: {differing}")
+}
+
+fn print_fill(rt: &LibcRuntime, result: Result<(), Failure>) -> io::Result<()> {
+    match result {
+        Ok(()) => rt.println("  fill: done"),
+        Err(Failure::Refused(refusal)) => {
+            let number = refusal.number();
+            println!(rt, "  fill: refused {number}")
+        }
+        Err(Failure::OutOfMemory) => rt.println("  fill: out of memory"),
+    }
+}
+
+// How many of the 256 rows there can be the two sources answer otherwise, a missing row counting as an answer.
+fn differing_rows<A: Source, B: Source>(a: &A, b: &B) -> usize {
+    let mut differing = 0usize;
+    for row in 0..256 {
+        if a.is_on(row) != b.is_on(row) || a.is_off(row) != b.is_off(row) {
+            differing = differing.saturating_add(1);
+        }
+    }
+    differing
+}
+
+// The complement of the table, and its cofactor with no flood.
+fn pile(rt: &LibcRuntime, truth: TruthTable) -> io::Result<()> {
+    rt.println("The complement of `spill`, with `flood` tied to 0:")?;
+    let mut pile = Cofactor::new(Complement::new(truth));
+    print_set(rt, pile.set(4, false))?;
+    print_set(rt, pile.set(3, false))?;
+    show(rt, &pile, &["high", "low", "run"], "not spill")?;
+    pile.release();
+    let inputs = pile.inputs();
+    println!(rt, "  released: {inputs} inputs again")
+}
+
+fn print_set(rt: &LibcRuntime, result: Result<(), Refusal>) -> io::Result<()> {
+    match result {
+        Ok(()) => rt.println("  tie: done"),
+        Err(refusal) => {
+            let number = refusal.number();
+            println!(rt, "  tie: refused {number}")
+        }
+    }
 }
 
 // Makes the calls one after the other, and says what each came to.
@@ -125,19 +194,19 @@ fn word(mark: Mark) -> &'static str {
 }
 
 // The finished table: one line for each row, the inputs from the highest, then the output.
-fn show(rt: &LibcRuntime, truth: &TruthTable, inputs: &[&str], output: &str) -> io::Result<()> {
+fn show<S: Source>(rt: &LibcRuntime, source: &S, inputs: &[&str], output: &str) -> io::Result<()> {
     rt.print("  row")?;
     for name in inputs {
         print!(rt, " {name}")?;
     }
     println!(rt, " -> {output}")?;
-    for row in 0..truth.rows() {
+    for row in 0..256 {
+        let Ok(mark) = source.look(row) else {
+            break;
+        };
         print!(rt, "  {row:>3}")?;
         show_levels(rt, row, inputs)?;
-        match truth.look(row) {
-            Ok(mark) => println!(rt, " -> {}", word(mark))?,
-            Err(_) => rt.println(" -> no such row")?,
-        }
+        println!(rt, " -> {}", word(mark))?;
     }
     Ok(())
 }

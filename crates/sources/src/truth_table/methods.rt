@@ -11,7 +11,9 @@ ghost use Rattle.terms.specs.Terms.{holds};
 ghost use Rattle.terms.specs.Tables.{blank, markAt};
 use crate::call::Call;
 use crate::call::Outcome;
+use crate::source::Source;
 use crate::truth_table::TruthTable;
+use crate::truth_table::source::TruthTableSource;
 use terms::Mark;
 use terms::Refusal;
 use terms::Term;
@@ -36,12 +38,6 @@ impl TruthTable {
             inputs: 1,
             marks: [Mark::Off; 256],
         }
-    }
-
-    pub fn inputs(&self) -> usize
-        ensures { λ r. ⌜ r ≡ table (now (self .entry)) .inputs ⌝ }
-    {
-        self.inputs
     }
 
     pub fn rows(&self) -> usize
@@ -86,16 +82,6 @@ impl TruthTable {
         let rows = self.rows();
         paint(&mut self.marks[0..rows], term, mark);
         Ok(())
-    }
-
-    // The mark of one row.
-    pub fn look(&self, row: usize) -> Result<Mark, Refusal>
-        ensures { λ r. ⌜ r ≡ judged (lookBreaks (table (now (self .entry)) .inputs) row) (markAt (table (now (self .entry))) row) ⌝ }
-    {
-        if row >= self.rows() {
-            return Err(Refusal::NoSuchRow);
-        }
-        Ok(self.marks[row])
     }
 
     // Makes one call, whichever it is.

@@ -1,11 +1,9 @@
 // What is asked of a term.
 ghost use mathlib.Core.Path.{_≡_};
 ghost use Prim.Native.Nat.{_≤_};
-ghost use Rattle.std.specs.Results.{Cases};
+ghost use Rattle.std.specs.Results.{isOk, Cases};
 ghost use Rattle.std.specs.Vec.{made};
 ghost use Rattle.std.specs.Of.String.{string-bytes};
-ghost use lib.Dec.{T};
-ghost use mathlib.Core.Bool.{not};
 ghost use Rattle.terms.specs.Terms.{isTerm, holds, contacts, weight, number, earlier, symbol, written};
 ghost use Rattle.terms.specs.TermLaws.{Holds-by-levels, Numbers-differ, Numbers-bounded};
 ghost use Rattle.terms.specs.declared.refusal.Refusal.the-variants.{MalformedTerm};
@@ -18,7 +16,8 @@ use std::alloc::Global;
 impl Term {
     // The term of two bytes, for a function of so many inputs.
     pub fn new(inputs: usize, mask: u8, levels: u8) -> Result<Term, Refusal>
-        ensures { λ r. ⌜ Cases r (λ t. (t .mask ≡ mask) × (t .levels ≡ levels) × T (isTerm inputs mask levels)) (λ e. (e ≡ MalformedTerm) × T (not (isTerm inputs mask levels))) ⌝ }
+        ensures test { λ r. ⌜ isOk r ≡ isTerm inputs mask levels ⌝ }
+        ensures value { λ r. ⌜ Cases r (λ t. (t .mask ≡ mask) × (t .levels ≡ levels)) (λ e. e ≡ MalformedTerm) ⌝ }
     {
         if inputs < 8 && mask >> inputs != 0 {
             return Err(Refusal::MalformedTerm);

@@ -8,10 +8,13 @@ use Rattle.terms.proofs.term.Term.new.Needs.{else-inputs-lt8·by·then-inputs-
 
 pub returns-then-mask-inputs-ne0 : need.returns-then-mask-inputs-ne0
 returns-then-mask-inputs-ne0 c =
-    (refl, no-term-reads (c .args .inputs) (c .args .mask) (c .args .levels) (shift-le (c .args .inputs) (c .args .mask) (c .if-mask-inputs-ne0 .taken)))
+    record {
+      test = no-term-reads (c .args .inputs) (c .args .mask) (c .args .levels) (shift-le (c .args .inputs) (c .args .mask) (c .if-mask-inputs-ne0 .taken));
+      value = refl;
+    }
 
 pub returns-then-levels-mask : need.returns-then-levels-mask
-returns-then-levels-mask c = (refl, no-term-level (c .args .inputs) (c .args .mask) (c .args .levels) (c .if-levels-mask .taken))
+returns-then-levels-mask c = record { test = no-term-level (c .args .inputs) (c .args .mask) (c .args .levels) (c .if-levels-mask .taken); value = refl }
 
 pub returns : need.returns
 returns c =
@@ -19,4 +22,4 @@ returns c =
       | else-inputs-lt8·by·then-inputs-lt8·else-mask-inputs-ne0 w ↦ shift-lt (c .args .inputs) (c .args .mask) (w .if-mask-inputs-ne0 .left)
       | else-inputs-lt8·by·else-inputs-lt8 w ↦ omega (arith, pow-mono {i = 8} {j = c .args .inputs} (w .if-inputs-lt8 .left))
     ] in
-    (refl, refl, is-term (c .args .inputs) (c .args .mask) (c .args .levels) fits (c .if-levels-mask .left))
+    record { test = is-term (c .args .inputs) (c .args .mask) (c .args .levels) fits (c .if-levels-mask .left); value = (refl, refl) }

@@ -5,7 +5,7 @@ use lib.ListN.{take, getD}
 use lib.Seq.{getD-take}
 use Rattle.terms.specs.declared.mark.Mark.the-variants.{Off}
 use Rattle.sources.proofs.Judging.{look-passes}
-use Rattle.sources.proofs.truth_table.TruthTable.look.Needs as need
+use Rattle.sources.proofs.truth_table.source.TruthTableSource.look.Needs as need
 
 pub returns : need.returns
 returns c =
