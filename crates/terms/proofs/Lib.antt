@@ -3,3 +3,5 @@ pub mod Bits
 pub mod Numbers
 pub mod Shapes
 pub mod Writing
+pub mod Members
+pub mod Padding

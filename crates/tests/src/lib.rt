@@ -2,6 +2,8 @@
 #[cfg(test)]
 mod piles;
 #[cfg(test)]
+mod prime_lists;
+#[cfg(test)]
 mod tables;
 #[cfg(test)]
 mod vocabulary;

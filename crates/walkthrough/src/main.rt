@@ -3,6 +3,9 @@ use layers::Cofactor;
 use layers::CofactorSource;
 use layers::Complement;
 use layers::ComplementSource;
+use primes::PrimeList;
+use primes::Work;
+use primes::primes;
 use sources::Call;
 use sources::Outcome;
 use sources::Source;
@@ -52,7 +55,8 @@ fn lead(rt: &LibcRuntime) -> io::Result<()> {
         Call::Look { row: 4 },
     ];
     enter(rt, &mut truth, &calls)?;
-    show(rt, &truth, &["hi", "run"], "lead")
+    show(rt, &truth, &["hi", "run"], "lead")?;
+    print_primes(rt, &truth, Work::Plain)
 }
 
 // The spillway opens in a flood, and when the pond is high with the stream running. A flood with the pond not high,
@@ -94,7 +98,32 @@ fn spill(rt: &LibcRuntime) -> io::Result<TruthTable> {
     ];
     enter(rt, &mut truth, &calls)?;
     show(rt, &truth, &["flood", "high", "low", "run"], "spill")?;
+    print_primes(rt, &truth, Work::Plain)?;
+    print_primes(rt, &truth, Work::HazardFree)?;
     Ok(truth)
+}
+
+// The primes of a source in some kind of work: each with the needs that it holds, and whether it is essential.
+fn print_primes<S: Source>(rt: &LibcRuntime, source: &S, work: Work) -> io::Result<()> {
+    match work {
+        Work::Plain => rt.println("  primes in plain work:")?,
+        Work::HazardFree => rt.println("  primes in hazard-free work:")?,
+    }
+    let mut list = PrimeList::new();
+    if let Err(refusal) = primes(source, work, &mut list) {
+        let number = refusal.number();
+        return println!(rt, "    refused {number}");
+    }
+    for place in 0..list.count {
+        let Some(prime) = list.get(place) else {
+            break;
+        };
+        let term = prime.term.written(rt.alloc(), source.inputs())?;
+        let needs = prime.needs;
+        let essential = if prime.essential { ", essential" } else { "" };
+        println!(rt, "    {term} holds {needs} needs{essential}")?;
+    }
+    Ok(())
 }
 
 // The same table as two lists of terms: the ON terms, and the terms of what cannot arise.

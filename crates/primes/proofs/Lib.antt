@@ -1,0 +1,12 @@
+pub mod Cube
+pub mod CubeLaws
+pub mod CubeBytes
+pub mod CubeTerms
+pub mod BaseThree
+pub mod Insides
+pub mod Judged
+pub mod Trials
+pub mod Listed
+pub mod Needing
+pub mod Gathering
+pub mod Essential

@@ -1,0 +1,19 @@
+// The implicants and primes of any source, and what a cover of it must hold.
+pub mod digits;
+pub mod essentials;
+pub mod implicants;
+pub mod listing;
+pub mod need;
+pub mod needs;
+pub mod prime;
+pub mod records;
+
+pub use implicants::Implicants;
+pub use implicants::judge_all;
+pub use listing::primes;
+pub use need::Need;
+pub use need::NeedList;
+pub use need::Work;
+pub use needs::list_needs;
+pub use prime::Prime;
+pub use prime::PrimeList;
