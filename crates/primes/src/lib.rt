@@ -1,12 +1,12 @@
 // The implicants and primes of any source, and what a cover of it must hold.
-pub mod digits;
-pub mod essentials;
-pub mod implicants;
-pub mod listing;
+mod digits;
+mod essentials;
+mod implicants;
+mod listing;
 pub mod need;
-pub mod needs;
+mod needs;
 pub mod prime;
-pub mod records;
+mod records;
 
 pub use implicants::Implicants;
 pub use implicants::judge_all;

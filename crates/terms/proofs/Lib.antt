@@ -5,3 +5,4 @@ pub mod Shapes
 pub mod Writing
 pub mod Members
 pub mod Padding
+pub mod Widening

@@ -17,18 +17,18 @@ pub record Table : Type 0 where
   pub marks : List Mark
 
 -- 1 to 8 inputs, and a mark for each of the 2 ^ n rows
-pub record Proper (T : Table) : Type 0 where
-  pub some : 1 ≤ T .inputs
-  pub few : T .inputs ≤ 8
-  pub full : length (T .marks) ≡ 2 ^ (T .inputs)
+pub record Proper (tb : Table) : Type 0 where
+  pub some : 1 ≤ tb .inputs
+  pub few : tb .inputs ≤ 8
+  pub full : length (tb .marks) ≡ 2 ^ (tb .inputs)
 
 -- the number of rows
 abbrev pub rows : Table → ℕ
-rows T = 2 ^ (T .inputs)
+rows tb = 2 ^ (tb .inputs)
 
 -- the mark of row r
 abbrev pub markAt : Table → ℕ → Mark
-markAt T r = getD (T .marks) r Off
+markAt tb r = getD (tb .marks) r Off
 
 -- n inputs, every row OFF
 abbrev pub blank : ℕ → Table

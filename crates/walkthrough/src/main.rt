@@ -3,6 +3,13 @@ use layers::Cofactor;
 use layers::CofactorSource;
 use layers::Complement;
 use layers::ComplementSource;
+use orders::Count;
+use orders::CountOrder;
+use orders::Longest;
+use orders::LongestOrder;
+use orders::Price;
+use orders::PriceOrder;
+use orders::cost;
 use primes::PrimeList;
 use primes::Work;
 use primes::primes;
@@ -17,6 +24,7 @@ use std::io;
 use terms::Failure;
 use terms::Mark;
 use terms::Refusal;
+use terms::Term;
 
 const OFF: usize = 0;
 
@@ -28,7 +36,8 @@ fn main(rt: LibcRuntime) -> io::Result<()> {
     lead(&rt)?;
     let spill = spill(&rt)?;
     compare(&rt, &spill)?;
-    pile(&rt, spill)
+    pile(&rt, spill)?;
+    costs(&rt)
 }
 
 // The gate leads when the stream runs and the basin is not up; with the basin up it makes no odds.
@@ -250,4 +259,50 @@ fn show_levels(rt: &LibcRuntime, row: usize, inputs: &[&str]) -> io::Result<()> 
         print!(rt, " {level:>width$}")?;
     }
     Ok(())
+}
+
+// What the two terms of the spillway gate cost under each order, and at other prices.
+fn costs(rt: &LibcRuntime) -> io::Result<()> {
+    match two_terms() {
+        Ok(terms) => print_costs(rt, &terms),
+        Err(_) => rt.println("  no such terms"),
+    }
+}
+
+fn two_terms() -> Result<[Term; 2], Refusal> {
+    let first = Term::new(4, 0b0101, 0b0101)?;
+    let second = Term::new(4, 0b1000, 0b1000)?;
+    Ok([first, second])
+}
+
+fn print_costs(rt: &LibcRuntime, terms: &[Term]) -> io::Result<()> {
+    rt.println("What -1-1 and 1--- cost together:")?;
+    if let Some((count, contacts)) = cost(&Count, terms) {
+        println!(rt, "  by count: {count} terms, {contacts} contacts")?;
+    }
+    if let Some(longest) = cost(&Longest, terms) {
+        println!(rt, "  by the longest term: {longest} contacts")?;
+    }
+    let mut price = Price::new();
+    print_price(rt, &price, terms)?;
+    print_prices(rt, price.set_prices([20, 3, 3, 5, 9, 0, 0, 0, 0]))?;
+    print_prices(rt, price.set_prices([20, 3, 3, 5, 1001, 0, 0, 0, 0]))?;
+    print_price(rt, &price, terms)
+}
+
+fn print_price(rt: &LibcRuntime, price: &Price, terms: &[Term]) -> io::Result<()> {
+    match cost(price, terms) {
+        Some(sum) => println!(rt, "  by price: {sum}"),
+        None => rt.println("  by price: too many terms"),
+    }
+}
+
+fn print_prices(rt: &LibcRuntime, result: Result<(), Refusal>) -> io::Result<()> {
+    match result {
+        Ok(()) => rt.println("  set prices: done"),
+        Err(refusal) => {
+            let number = refusal.number();
+            println!(rt, "  set prices: refused {number}")
+        }
+    }
 }

@@ -38,7 +38,8 @@ impl Term {
 
     // How many contacts it takes to wire the term.
     pub fn contacts(self) -> usize
-        ensures { λ r. ⌜ r ≡ contacts self ⌝ }
+        ensures value { λ r. ⌜ r ≡ contacts self ⌝ }
+        ensures bound { λ r. ⌜ r ≤ 8 ⌝ }
     {
         self.mask.count_ones() as usize
     }

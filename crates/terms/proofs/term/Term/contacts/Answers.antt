@@ -10,4 +10,4 @@ pub cast-result : need.cast-result
 cast-result c = let h = ones-le 8 (c .args .self .mask) (c .args .self .byte) in search needs
 
 pub returns : need.returns
-returns c = ones-byte (c .args .self .mask) (c .args .self .byte)
+returns c = record { value = ones-byte (c .args .self .mask) (c .args .self .byte); bound = ones-le 8 (c .args .self .mask) (c .args .self .byte) }

@@ -1,0 +1,5 @@
+pub mod Orders
+pub mod Kinds
+pub mod Lawful
+pub mod Any
+pub mod TotalLaws
