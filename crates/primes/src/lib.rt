@@ -8,8 +8,6 @@ mod needs;
 pub mod prime;
 mod records;
 
-pub use implicants::Implicants;
-pub use implicants::judge_all;
 pub use listing::primes;
 pub use need::Need;
 pub use need::NeedList;
