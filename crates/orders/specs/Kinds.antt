@@ -52,5 +52,5 @@ abbrev pub priced : List ℕ → Result (Unit {0}) Refusal
 priced ps = cond (allSmall ps) (Ok tt) (Err PriceTooHigh)
 
 -- the prices after it: the old ones where it is refused
-abbrev pub unpriced : List ℕ → List ℕ → List ℕ
-unpriced old ps = cond (allSmall ps) ps old
+abbrev pub pricesAfter : List ℕ → List ℕ → List ℕ
+pricesAfter old ps = cond (allSmall ps) ps old

@@ -34,7 +34,3 @@ pub record Laws (m : Meaning) : Type 0 where
 abbrev pub total : (m : Meaning) → List Term → m .Total
 total m [] = m .empty
 total m (t ∷ ts) = m .join (m .price t) (total m ts)
-
--- two totals cost the same when each is at most the other
-abbrev pub Same-cost : (m : Meaning) → m .Total → m .Total → Type 0
-Same-cost m a b = (m .atMost a b ≡ true) × (m .atMost b a ≡ true)

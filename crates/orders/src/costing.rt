@@ -2,7 +2,8 @@
 ghost use mathlib.Core.Path.{_≡_};
 ghost use Prim.Native.Nat.{_<_};
 ghost use lib.ListN.{length};
-ghost use Rattle.std.specs.Options.{Cases as BySome};
+ghost use lib.Dec.{leb};
+ghost use Rattle.std.specs.Options.{Cases as BySome, isSome};
 ghost use Rattle.orders.specs.Orders.{Laws, total};
 ghost use Rattle.orders.specs.Kinds.{byCount, byPrice, byLongest};
 ghost use Rattle.orders.specs.TotalLaws.{Any-order, More-costs-more, Wider-costs-less};
@@ -13,6 +14,7 @@ use terms::Term;
 // The total of up to 256 terms; totals are exact no further. Whatever the order, the sequence of the terms does not matter,
 // more terms cost no less, and wider terms cost no more.
 pub fn cost<O: CostOrder>(order: &O, terms: &[Term]) -> Option<O::Total>
+    ensures answered { λ r. ⌜ isSome r ≡ leb (length (now (terms .entry))) 256 ⌝ }
     ensures total { λ r. ⌜ BySome r (256 < length (now (terms .entry))) (λ a. O·CostOrder .exact (now (order .entry)) a ≡ total (O·CostOrder .meaning (now (order .entry))) (now (terms .entry))) ⌝ }
     ensures sequence { λ _. ⌜ Any-order (O·CostOrder .meaning (now (order .entry))) ⌝ }
     ensures more { λ _. ⌜ More-costs-more (O·CostOrder .meaning (now (order .entry))) ⌝ }

@@ -6,7 +6,7 @@ ghost use Rattle.orders.specs.Orders.{total};
 ghost use Prim.Native.Nat.{_+_, _≤_};
 ghost use lib.Dec.{leb};
 ghost use lib.ListN.{length, replicate};
-ghost use Rattle.orders.specs.Kinds.{byPrice, priceAt, stopped, priced, unpriced};
+ghost use Rattle.orders.specs.Kinds.{byPrice, priceAt, stopped, priced, pricesAfter};
 ghost use Rattle.orders.specs.Lawful.{price-laws};
 use crate::order::CostOrder;
 use crate::price::Price;
@@ -26,7 +26,7 @@ impl Price {
     // Takes nine prices: the term's, and then one for a contact of each input from input 0 on.
     pub fn set_prices(&mut self, prices: [usize; 9]) -> Result<(), Refusal>
         ensures result { λ r. ⌜ r ≡ priced prices ⌝ }
-        ensures after { λ _. ⌜ now (self .exit) .prices ≡ unpriced (now (self .entry) .prices) prices ⌝ }
+        ensures after { λ _. ⌜ now (self .exit) .prices ≡ pricesAfter (now (self .entry) .prices) prices ⌝ }
     {
         for k in 0..9 {
             if prices[k] > HIGHEST_PRICE {

@@ -3,6 +3,7 @@ use mathlib.Core.List.{List, [], _∷_}
 use Prim.Native.Nat.{ℕ, suc, _-_, _<_, _≤_}
 use native.Mathlib.Omega.{arith}
 use lib.ListN.{length, drop, getD, length-drop, drop-of-length-le}
+use Rattle.std.proofs.shelf.Tests.{le-leb, lt-leb}
 use Rattle.terms.specs.declared.term.Term.{Term}
 use Rattle.orders.specs.Orders.{Meaning, Laws, total}
 use Rattle.orders.proofs.Totalling.{any-order, more-costs-more, wider-costs-less, total-one, total-more}
@@ -12,7 +13,7 @@ pub returns-then-terms-gt256 : need.returns-then-terms-gt256
 returns-then-terms-gt256 g c =
     let m : Meaning = g .O·CostOrder .meaning (c .args .order .now) in
     let laws = g .O·CostOrder .laws (c .args .order .now) in
-    record { total = c .if-terms-gt256 .taken; sequence = any-order m laws; more = more-costs-more m laws; wider = wider-costs-less m laws }
+    record { answered = sym (lt-leb (length (c .args .terms .now)) 256 (c .if-terms-gt256 .taken)); total = c .if-terms-gt256 .taken; sequence = any-order m laws; more = more-costs-more m laws; wider = wider-costs-less m laws }
 
 pub loop-i-holds : need.loop-i-holds
 loop-i-holds g c =
@@ -44,6 +45,7 @@ returns g c =
     let laws = g .O·CostOrder .laws (c .args .order .now) in
     let z : c .loop-i .i ≡ 0 = omega arith in
     record {
+      answered = sym (le-leb (length (c .args .terms .now)) 256 (omega arith));
       total = c .loop-i .inv ∙ ap (λ (k : ℕ). total m (drop k (c .args .terms .now))) z;
       sequence = any-order m laws;
       more = more-costs-more m laws;
