@@ -1,4 +1,6 @@
 // Covering charts, sets of their columns and what a set costs.
+#![tactic(auto)]
+
 pub mod chart;
 pub mod columns;
 pub mod valued;

@@ -1,4 +1,6 @@
 // The best set of columns of a chart under any cost order.
+#![tactic(auto)]
+
 mod choosing;
 mod earliest;
 mod floor;

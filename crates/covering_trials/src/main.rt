@@ -1,4 +1,6 @@
 // Compares the search with a walk through every set of columns, on many small charts with many ties.
+#![tactic(auto)]
+
 mod draw;
 mod sample;
 mod walk;

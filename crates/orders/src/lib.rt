@@ -1,4 +1,6 @@
 // Cost orders: the interface with its laws, and the three orders.
+#![tactic(auto)]
+
 pub mod any;
 pub mod costing;
 pub mod count;

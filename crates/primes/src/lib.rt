@@ -1,4 +1,6 @@
 // The implicants and primes of any source, and what a cover of it must hold.
+#![tactic(auto)]
+
 mod digits;
 mod essentials;
 mod implicants;

@@ -1,4 +1,6 @@
 // Lists the primes of one 8-input table many times over, to be timed from outside.
+#![tactic(auto)]
+
 use primes::{PrimeList, Work, primes};
 use sources::TruthTable;
 use std::io;

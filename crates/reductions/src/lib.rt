@@ -1,4 +1,6 @@
 // The trail of a covering search, and the reductions at a node: columns that must be taken and columns that can be done without.
+#![tactic(auto)]
+
 pub mod columns_left;
 pub mod needs;
 pub mod node;

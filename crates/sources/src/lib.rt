@@ -1,4 +1,6 @@
 // Where switching functions come from: the interface, the truth table and the term list.
+#![tactic(auto)]
+
 pub mod call;
 pub mod sequence;
 pub mod source;

@@ -1,4 +1,6 @@
 // The vocabulary of the minimiser: marks, terms, refusals.
+#![tactic(auto)]
+
 pub mod failure;
 pub mod mark;
 pub mod refusal;

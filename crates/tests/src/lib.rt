@@ -1,4 +1,6 @@
 // Worked examples, run by the gate. They stand in a crate of their own, so that the crates they try are proved once.
+#![tactic(auto)]
+
 #[cfg(test)]
 mod costs;
 #[cfg(test)]

@@ -1,4 +1,6 @@
 // Takes real duty tables of the mill from the first entry to the finished table, and says what took place.
+#![tactic(auto)]
+
 use layers::{Cofactor, Complement};
 use orders::{Count, Longest, Price, cost};
 use primes::{PrimeList, Work, primes};
