@@ -3,8 +3,8 @@ use Rattle.charts.specs.Sets.{member, down}
 use Rattle.charts.proofs.Values.{value_more, down_short, down_with, down_less}
 use Rattle.charts.proofs.valued.value_of.Goals as goal
 
-pub overflow-add-size : goal.overflow-add-size
-overflow-add-size g c =
+pub overflow_add-size : goal.overflow_add-size
+overflow_add-size g c =
     let few = (g.met.C.Chart.small c.args.chart.now).few in
     let h : c.loop-k.size ≤ 256 = omega (arith, down_short (member c.args.set.now) c.loop-k.k, c.loop-k.invariant.1, c.columns-k-end.ensures) in
     search rules

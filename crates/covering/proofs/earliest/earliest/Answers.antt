@@ -12,8 +12,8 @@ find-requires g c =
     let n = c.split-node.result in
     record { apart = λ k h. asks_apart (member c.loop-j.best.set) (taken n) (banned n) c.loop-j.j k c.split-node.ensures h; bound = c.loop-j.invariant.2 }
 
-pub loop-j-preserved-in-default : goal.loop-j-preserved-in-default
-loop-j-preserved-in-default g c =
+pub loop-j-preserved-in_default : goal.loop-j-preserved-in_default
+loop-j-preserved-in_default g c =
     let o = g.O.CostOrder in
     let me = c.args.order.now in
     let m = g.C.Chart.grid c.args.chart.now in
@@ -23,7 +23,7 @@ loop-j-preserved-in-default g c =
     let j = c.loop-j.j in
     let inv = c.loop-j.invariant in
     let lt : j < m.width = omega (arith, c.columns-j-end.ensures) in
-    (inv.0, rw add-one (settled_none_found p (o.laws me) s (taken n) (banned n) j lt c.split-node.ensures inv.1 c.in-default.ensures), inv.2)
+    (inv.0, rw add-one (settled_none_found p (o.laws me) s (taken n) (banned n) j lt c.split-node.ensures inv.1 c.in_default.ensures), inv.2)
 
 pub loop-j-preserved : goal.loop-j-preserved
 loop-j-preserved g c =

@@ -19,8 +19,8 @@ returns-then-not-is-fine g c =
     (tested p few c.args.strict (taken n) (member bound.set) (o.exact me here.result.total) (o.exact me bound.total) here.result.size bound.size false
     record { total = here.ensures.total; size = here.ensures.size } c.requires c.if-not-is-fine.ensures)
 
-pub returns-in-default : goal.returns-in-default
-returns-in-default g c =
+pub returns-in_default : goal.returns-in_default
+returns-in_default g c =
     let o = g.O.CostOrder in
     let me = c.args.order.now in
     let p = problem (o.meaning me) (g.C.Chart.grid c.args.chart.now) in
@@ -28,15 +28,15 @@ returns-in-default g c =
     let n = c.args.node.now in
     let bound = c.args.bound.now in
     let here = c.value-of-here in (
-      c.in-default.ensures,
+      c.in_default.ensures,
       tested p few c.args.strict (taken n) (member bound.set) (o.exact me here.result.total) (o.exact me bound.total) here.result.size bound.size true
           record { total = here.ensures.total; size = here.ensures.size } c.requires c.if-not-is-fine.ensures,
     )
 
-pub returns-in-default-widest-column : goal.returns-in-default-widest-column
-returns-in-default-widest-column g c =
+pub returns-in_default-widest-column : goal.returns-in_default-widest-column
+returns-in_default-widest-column g c =
     let o = g.O.CostOrder in
     let me = c.args.order.now in
     let p = problem (o.meaning me) (g.C.Chart.grid c.args.chart.now) in
     let n = c.args.node.now in
-    lost p (o.laws me) c.args.strict (member c.args.bound.now.set) (taken n) (banned n) c.in-Some.need c.in-Some.ensures.0 c.in-default-widest-column.ensures
+    lost p (o.laws me) c.args.strict (member c.args.bound.now.set) (taken n) (banned n) c.in-Some.need c.in-Some.ensures.0 c.in_default-widest-column.ensures

@@ -6,26 +6,26 @@ use Rattle.primes.proofs.BaseThree.{cube_end, levels_down, levels_small, masks_d
 use Rattle.terms.proofs.Numbers.{same_term}
 use Rattle.primes.proofs.digits.term_at.Goals as goal
 
-pub overflow-mul-mask : goal.overflow-mul-mask
-overflow-mul-mask c =
+pub overflow_mul-mask : goal.overflow_mul-mask
+overflow_mul-mask c =
     let h = masks_down 8 c.loop-i.i c.args.x (omega arith) (omega arith) in
     let k = masks_small (8 - (c.loop-i.i - 1)) (c.args.x / 3 ^ (c.loop-i.i - 1)) (omega arith) in
     omega arith
 
-pub overflow-add-mask-in-loop-i : goal.overflow-add-mask-in-loop-i
-overflow-add-mask-in-loop-i c =
+pub overflow_add-mask-in-loop-i : goal.overflow_add-mask-in-loop-i
+overflow_add-mask-in-loop-i c =
     let h = masks_down 8 c.loop-i.i c.args.x (omega arith) (omega arith) in
     let k = masks_small (8 - (c.loop-i.i - 1)) (c.args.x / 3 ^ (c.loop-i.i - 1)) (omega arith) in
     omega arith
 
-pub overflow-mul-levels : goal.overflow-mul-levels
-overflow-mul-levels c =
+pub overflow_mul-levels : goal.overflow_mul-levels
+overflow_mul-levels c =
     let h = levels_down 8 c.loop-i.i c.args.x (omega arith) (omega arith) in
     let k = levels_small (8 - (c.loop-i.i - 1)) (c.args.x / 3 ^ (c.loop-i.i - 1)) (omega arith) in
     omega arith
 
-pub overflow-add-levels : goal.overflow-add-levels
-overflow-add-levels c =
+pub overflow_add-levels : goal.overflow_add-levels
+overflow_add-levels c =
     let h = levels_down 8 c.loop-i.i c.args.x (omega arith) (omega arith) in
     let k = levels_small (8 - (c.loop-i.i - 1)) (c.args.x / 3 ^ (c.loop-i.i - 1)) (omega arith) in
     omega arith
@@ -36,8 +36,8 @@ loop-i-preserved c =
     let k = masks_down 8 c.loop-i.i c.args.x (omega arith) (omega arith) in
     (omega arith, omega arith)
 
-pub invariant-of-result : goal.invariant-of-result
-invariant-of-result c =
+pub invariant_of-result : goal.invariant_of-result
+invariant_of-result c =
     let e = cube_end 8 c.loop-i.i c.args.x c.loop-i-test.false in
     let p : c.loop-i.mask ≡ mask_in (cube_of 8 c.args.x) = c.loop-i.invariant.0 ∙ ap mask_in e in
     let q : c.loop-i.levels ≡ levels_in (cube_of 8 c.args.x) = c.loop-i.invariant.1 ∙ ap levels_in e in

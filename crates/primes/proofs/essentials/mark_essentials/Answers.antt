@@ -9,7 +9,7 @@ use Rattle.primes.specs.Needs.{listed, row_need}
 use Rattle.primes.specs.Records.{terms_in, records_in, record_meets, no_prime}
 use Rattle.primes.proofs.Essential.{noted, noting_none, noting_sole, noting_all, get_d_any}
 use Rattle.primes.proofs.essentials.mark_essentials.Goals as goal
-use Rattle.primes.proofs.essentials.mark_essentials.Goals.{in-Some, in-default}
+use Rattle.primes.proofs.essentials.mark_essentials.Goals.{in-Some, in_default}
 
 pub loop-k-preserved : goal.loop-k-preserved
 loop-k-preserved c =
@@ -33,9 +33,9 @@ loop-k-preserved c =
           noting_sole ps ds k (row_need 0) h l c.loop-k.invariant c.match-sole-holder.list at _ en.0 en.1 en.2
           (ap (λ (x : Prime). record { term = x.term; number = x.number; needs = x.needs; essential = true }) (get_d_any l.primes at w.index-list-at.result no_prime inside))
           (ap (λ (x : PrimeList). x.count) w.list-is) (ap (λ (x : PrimeList). x.primes) w.list-is)
-      | in-default w ↦
+      | in_default w ↦
           noting_none ps ds k (row_need 0) h l c.loop-k.invariant c.match-sole-holder.list w.list-is
-          (subst (λ (d : Need). length (filter (record_meets d) (records_in l)) ≡ 1 → ⊥) e w.in-default.ensures)
+          (subst (λ (d : Need). length (filter (record_meets d) (records_in l)) ≡ 1 → ⊥) e w.in_default.ensures)
     ]
 
 pub returns : goal.returns

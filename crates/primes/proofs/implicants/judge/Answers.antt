@@ -3,8 +3,8 @@ use Rattle.terms.specs.Tables.{Table}
 use Rattle.primes.proofs.Judged.{room, judged_split, judged_row}
 use Rattle.primes.proofs.implicants.judge.Goals as goal
 
-pub overflow-add-x : goal.overflow-add-x
-overflow-add-x g c =
+pub overflow_add-x : goal.overflow_add-x
+overflow_add-x g c =
     let h = room c.args.n c.in-Some.i c.args.x c.power-step.result c.requires.few c.requires.number c.power-step.ensures c.in-Some.ensures in
     omega arith
 
@@ -13,13 +13,13 @@ bounds-yes-x g c =
     let h = room c.args.n c.in-Some.i c.args.x c.power-step.result c.requires.few c.requires.number c.power-step.ensures c.in-Some.ensures in
     omega arith
 
-pub overflow-mul-result : goal.overflow-mul-result
-overflow-mul-result g c =
+pub overflow_mul-result : goal.overflow_mul-result
+overflow_mul-result g c =
     let h = room c.args.n c.in-Some.i c.args.x c.power-step.result c.requires.few c.requires.number c.power-step.ensures c.in-Some.ensures in
     omega arith
 
-pub overflow-add-result : goal.overflow-add-result
-overflow-add-result g c =
+pub overflow_add-result : goal.overflow_add-result
+overflow_add-result g c =
     let h = room c.args.n c.in-Some.i c.args.x c.power-step.result c.requires.few c.requires.number c.power-step.ensures c.in-Some.ensures in
     omega arith
 

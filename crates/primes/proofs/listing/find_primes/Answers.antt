@@ -39,8 +39,8 @@ power-requires g c =
     let top = pow3_le n few in
     omega arith
 
-pub overflow-mul-d : goal.overflow-mul-d
-overflow-mul-d g c =
+pub overflow_mul-d : goal.overflow_mul-d
+overflow_mul-d g c =
     let tb : Table = g.S.Source.meaning c.args.source.now in
     let n : ℕ = c.inputs-n.result in
     let few : n ≤ 8 = subst (λ (k : ℕ). k ≤ 8) (sym c.inputs-n.ensures) (g.met.S.Source.proper c.args.source.now).few in
@@ -48,8 +48,8 @@ overflow-mul-d g c =
     let q = place_at c.terms.x c.loop-i.i c.digit-d.result c.power.result c.digit-d.ensures c.power.ensures in
     omega arith
 
-pub overflow-sub-x : goal.overflow-sub-x
-overflow-sub-x g c = place_at c.terms.x c.loop-i.i c.digit-d.result c.power.result c.digit-d.ensures c.power.ensures
+pub overflow_sub-x : goal.overflow_sub-x
+overflow_sub-x g c = place_at c.terms.x c.loop-i.i c.digit-d.result c.power.result c.digit-d.ensures c.power.ensures
 
 pub bounds-yes-x-then-d-ne0 : goal.bounds-yes-x-then-d-ne0
 bounds-yes-x-then-d-ne0 g c =

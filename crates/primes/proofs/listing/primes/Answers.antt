@@ -18,9 +18,9 @@ find-primes-requires g c =
     let f = few_needs (g.S.Source.meaning c.args.source.now) c.args.work (g.met.S.Source.proper c.args.source.now).few in
     omega arith
 
-pub returns-in-default : goal.returns-in-default
-returns-in-default g c =
-    let e = too_many (g.S.Source.meaning c.args.source.now) c.in-default.ensures in
+pub returns-in_default : goal.returns-in_default
+returns-in_default g c =
+    let e = too_many (g.S.Source.meaning c.args.source.now) c.in_default.ensures in
     record { result = rw e refl; table = rw e refl; count = rw e refl; listed = primes_listed; rising = primes_rising }
 
 pub mark-essentials-requires : goal.mark-essentials-requires

@@ -19,7 +19,7 @@ loop-call-preserved c =
     let a = c.loop-call.invariant.1 in
     let told = c.call.ensures.result ∙ answer_same (table c.loop-call.truth) (so_far i calls) (get_or calls i (Size 0)) a in
     rw next (
-      answers_more calls i (Size 0) (vec_items c.loop-call.outcomes) (vec_items c.push.new.self) c.call.result c.loop-call-test.true c.in-ok-push.ensures.items told c.loop-call.invariant.0,
+      answers_more calls i (Size 0) (vec_items c.loop-call.outcomes) (vec_items c.push.new.self) c.call.result c.loop-call-test.true c.in_ok-push.ensures.items told c.loop-call.invariant.0,
       subst (λ (b : List Call). Agrees (table c.call.new.self) b) (sym (so_far_more calls i (Size 0) c.loop-call-test.true))
           (agrees_next (table c.loop-call.truth) (table c.call.new.self) (so_far i calls) (get_or calls i (Size 0)) a c.call.ensures.after),
     )

@@ -3,5 +3,5 @@ use Rattle.layers.proofs.complement.ComplementSource.look.Goals as goal
 
 pub returns : goal.returns
 returns g c =
-    looked_complement (g.S.Source.meaning c.args.self.now.below) c.args.row c.in-ok-mark.mark c.opposite.result
-    (g.met.S.Source.proper c.args.self.now.below) c.in-ok-mark.ensures c.opposite.ensures
+    looked_complement (g.S.Source.meaning c.args.self.now.below) c.args.row c.in_ok-mark.mark c.opposite.result
+    (g.met.S.Source.proper c.args.self.now.below) c.in_ok-mark.ensures c.opposite.ensures

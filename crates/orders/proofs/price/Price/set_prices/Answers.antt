@@ -22,8 +22,8 @@ returns-then-prices-k-gt-HIGHEST-PRICE c =
     sym c.loop-k.invariant ∙ small_here ps k 0 long ∙ ap (λ (b : Bool). b && all_small (drop (suc k) ps)) (lt-leb (get_or ps k 0) 1000 c.if-prices-k-gt-HIGHEST-PRICE.true) in
     record { result = rw e refl; after = rw e refl }
 
-pub invariant-of-self : goal.invariant-of-self
-invariant-of-self c =
+pub invariant_of-self : goal.invariant_of-self
+invariant_of-self c =
     let long : length c.args.prices ≤ c.loop-k.k = search known in
     (sym c.loop-k.invariant ∙ small_none c.args.prices c.loop-k.k long, tt)
 

@@ -18,8 +18,8 @@ replay-node-requires c =
       fresh = ap (is_fresh (member s.root.taken) (member s.root.banned)) pushed ∙ fresh_back (member s.root.taken) (member s.root.banned) (steps_of s) s.fresh;
     }
 
-pub invariant-of-self-2 : goal.invariant-of-self-2
-invariant-of-self-2 c =
+pub invariant_of-self-2 : goal.invariant_of-self-2
+invariant_of-self-2 c =
     let s = c.args.self.now in
     let k = c.in-Some.k in
     let e = step (get_or s.steps k (step 0 false false)).column false false in

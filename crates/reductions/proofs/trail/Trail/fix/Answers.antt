@@ -16,8 +16,8 @@ bounds-self-len c =
     let room = fresh_room t b r c.args.column free s.fresh in
     omega (arith, length_up_to s.steps s.len)
 
-pub invariant-of-self : goal.invariant-of-self
-invariant-of-self c =
+pub invariant_of-self : goal.invariant_of-self
+invariant_of-self c =
     let s = c.args.self.now in
     let t = member s.root.taken in
     let b = member s.root.banned in

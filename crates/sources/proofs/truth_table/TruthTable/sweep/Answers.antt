@@ -11,8 +11,8 @@ pub returns : goal.returns
 returns c =
     let n : ℕ = c.args.self.now.inputs in
     let marks : List Mark = c.args.self.now.marks in
-    let t = c.in-ok-term.ensures in
-    let k = code_named c.args.code c.in-ok-mark.mark (sym c.in-ok-mark.ensures.value) in
+    let t = c.in_ok-term.ensures in
+    let k = code_named c.args.code c.in_ok-mark.mark (sym c.in_ok-mark.ensures.value) in
     let e = sweep_passes n c.args.mask c.args.levels c.args.code t.test k.0 in
     let long : length marks ≡ 256 = c.args.self.now.whole in
     let room : 2 ^ n ≤ length marks = omega (arith, pow_mono {i = n} {j = 8} c.args.self.now.few) in
@@ -22,11 +22,11 @@ returns c =
           c.rows-rows.ensures room t.value.0 t.value.1 k.1 c.paint.ensures));
     }
 
-pub invariant-of-self : goal.invariant-of-self
-invariant-of-self c =
+pub invariant_of-self : goal.invariant_of-self
+invariant_of-self c =
     let marks : List Mark = c.args.self.now.marks in
     let same : length c.paint.new.marks ≡ length (mid_of 0 (c.rows-rows.result - 0) marks) =
-    ap length c.paint.ensures ∙ length_painted (holds c.in-ok-term.term) c.in-ok-mark.mark 0 (mid_of 0 (c.rows-rows.result - 0) marks) in (
+    ap length c.paint.ensures ∙ length_painted (holds c.in_ok-term.term) c.in_ok-mark.mark 0 (mid_of 0 (c.rows-rows.result - 0) marks) in (
       c.args.self.now.some,
       (
         c.args.self.now.few,

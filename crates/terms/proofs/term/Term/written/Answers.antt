@@ -10,4 +10,4 @@ loop-i-preserved c =
     let small : c.from.result < 128 = subst (λ (x : ℕ). x < 128) (sym e) (symbol_lt c.args.self (c.loop-i.i - 1)) in
     written_more c.args.self c.args.inputs c.loop-i.i c.from.result (string_bytes c.loop-i.text) (string_bytes c.push.new.self)
     (encode c.from.result) (omega arith) e
-    c.in-ok-push.ensures.bytes (c.in-ok-push.ensures.ascii small) c.loop-i.invariant
+    c.in_ok-push.ensures.bytes (c.in_ok-push.ensures.ascii small) c.loop-i.invariant

@@ -6,8 +6,8 @@ use Rattle.orders.proofs.price.methods.PriceCostOrder.price.Goals.{then-term-inp
 pub loop-input-init : goal.loop-input-init
 loop-input-init c = summed_none c.args.self.now.prices c.args.term.mask c.args.self.now.small
 
-pub overflow-add-sum-then-term-input-eq1 : goal.overflow-add-sum-then-term-input-eq1
-overflow-add-sum-then-term-input-eq1 c =
+pub overflow_add-sum-then-term-input-eq1 : goal.overflow_add-sum-then-term-input-eq1
+overflow_add-sum-then-term-input-eq1 c =
     let a = c.loop-input.invariant.1 in
     let b = small_at c.args.self.now.prices (c.loop-input.input + 1) c.args.self.now.small in
     omega arith
