@@ -6,7 +6,7 @@ widened : (P P' : Type 0) (Q : ℕ → Type 0) (o : Option ℕ) → (P → P') �
 widened P P' Q None f h = f h
 widened P P' Q (Some i) f h = h
 
-pub loop-i-preserved-then-held-by : goal.loop-i-preserved-then-held-by
-loop-i-preserved-then-held-by g c =
+pub loop-i-preserved-then-held_by : goal.loop-i-preserved-then-held_by
+loop-i-preserved-then-held_by g c =
     let m = g.C.Chart.grid c.args.chart.now in
-    widened _ _ (λ i. (i < m.wanted) × ((k : ℕ) → k < m.width → taken c.args.node.now k ≡ true → m.held k i ≡ false)) c.loop-i.hardest (λ all. below_more _ _ all (c.if-held-by.ensures.holds refl)) c.loop-i.invariant
+    widened _ _ (λ i. (i < m.wanted) × ((k : ℕ) → k < m.width → taken c.args.node.now k ≡ true → m.held k i ≡ false)) c.loop-i.hardest (λ all. below_more _ _ all (c.if-held_by.ensures.holds refl)) c.loop-i.invariant

@@ -36,7 +36,7 @@ loop-j-preserved g c =
     let j = c.loop-j.j in
     let inv = c.loop-j.invariant in
     let lt : j < m.width = omega (arith, c.columns-j-end.ensures) in
-    let v = c.value-of-best in
+    let v = c.value_of-best in
     let e = sym v.ensures.set in
     let w = settled_found p (o.laws me) s (taken n) (banned n) j lt c.split-node.ensures (member c.in-Some.set) inv.0 inv.1 c.in-Some.ensures in (
       subst (λ (x : ColumnSet). Least p (member x)) e w.0,

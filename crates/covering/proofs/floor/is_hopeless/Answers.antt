@@ -28,8 +28,8 @@ loop-i-preserved g c =
     let low = c.loop-i.low in
     let li : c.loop-i.i < m.wanted = omega (arith, c.needs-i-end.ensures) in (
       floor_more (problem (o.meaning me) m) (o.laws me) c.args.strict (member c.args.bound.now.set) (taken n) (banned n)
-          (member c.loop-i.used) (member c.use-columns.new.used) (o.exact me low.total) (o.exact me c.price-price.result) (o.exact me c.join-low.result) low.size c.loop-i.i c.in-Some.column
-          c.loop-i.invariant.0 c.if-low-ge256.false li c.price-price.ensures (c.if-not-is-apart.ensures refl) c.in-Some.ensures c.use-columns.ensures.marks c.use-columns.ensures.keeps c.join-low.ensures.exact,
+          (member c.loop-i.used) (member c.use_columns.new.used) (o.exact me low.total) (o.exact me c.price-price.result) (o.exact me c.join-low.result) low.size c.loop-i.i c.in-Some.column
+          c.loop-i.invariant.0 c.if-low-ge256.false li c.price-price.ensures (c.if-not-is_apart.ensures refl) c.in-Some.ensures c.use_columns.ensures.marks c.use_columns.ensures.keeps c.join-low.ensures.exact,
       omega arith,
     )
 
@@ -44,4 +44,4 @@ returns g c =
     let few = (g.met.C.Chart.small c.args.chart.now).few in
     λ e. floor_ends (problem (o.meaning me) m) (o.laws me) c.args.strict (member bound.set) (taken n) (banned n) (member c.loop-i.used) (o.exact me low.total) (o.exact me bound.total) low.size bound.size
     few c.loop-i.invariant.1 c.loop-i.invariant.0 c.requires.bound
-    (λ ts us x y i j. sym (not-true _ e) ∙ c.is-fine.ensures ts us x y i j)
+    (λ ts us x y i j. sym (not-true _ e) ∙ c.is_fine.ensures ts us x y i j)

@@ -2,14 +2,14 @@ use Rattle.std.proofs.Common.{◌<◌, sym, refl, arith, below_more}
 use Rattle.std.proofs.lemmas.Bool.{both_ways, true≢false, false≢true}
 use Rattle.covering.proofs.searching.covers.Goals as goal
 
-pub returns-then-not-held-by : goal.returns-then-not-held-by
-returns-then-not-held-by g c =
+pub returns-then-not-held_by : goal.returns-then-not-held_by
+returns-then-not-held_by g c =
     let i = c.loop-i.i in
     let l : i < (g.C.Chart.grid c.args.chart.now).wanted = omega (arith, c.needs-i-end.ensures) in
     record {
       holds = λ e. absurd (false≢true e);
-      lacks = λ _ h. let w = h i l in both_ways _ (c.if-not-held-by.ensures.lacks refl w.0 w.1 w.2) w.3;
+      lacks = λ _ h. let w = h i l in both_ways _ (c.if-not-held_by.ensures.lacks refl w.0 w.1 w.2) w.3;
     }
 
 pub loop-i-preserved : goal.loop-i-preserved
-loop-i-preserved g c = below_more _ _ c.loop-i.invariant (c.if-not-held-by.ensures.holds refl)
+loop-i-preserved g c = below_more _ _ c.loop-i.invariant (c.if-not-held_by.ensures.holds refl)

@@ -25,8 +25,8 @@ returns-in-Found g c =
     let good : Good w.node = subst Good c.node.ensures c.in-Found.ensures in
     (leads_reduce p (o.laws me) st bound c.args.trail.now c.loop-trail.trail w c.loop-trail.invariant c.reduce.ensures, good.0, good.1)
 
-pub returns-then-not-back-up : goal.returns-then-not-back-up
-returns-then-not-back-up g c =
+pub returns-then-not-back_up : goal.returns-then-not-back_up
+returns-then-not-back_up g c =
     let o = g.O.CostOrder in
     let me = c.args.order.now in
     let p = problem (o.meaning me) (g.C.Chart.grid c.args.chart.now) in
@@ -35,19 +35,19 @@ returns-then-not-back-up g c =
     let s = c.args.trail.now in
     let w = c.reduce.new.trail in
     leads_end p (o.laws me) st bound s w (leads_reduce p (o.laws me) st bound s c.loop-trail.trail w c.loop-trail.invariant c.reduce.ensures)
-    (subst (Barren p st bound) c.node.ensures c.in-Dead.ensures) (sym c.if-not-back-up.ensures.owed)
+    (subst (Barren p st bound) c.node.ensures c.in-Dead.ensures) (sym c.if-not-back_up.ensures.owed)
 
-pub loop-trail-smaller-else-not-back-up : goal.loop-trail-smaller-else-not-back-up
-loop-trail-smaller-else-not-back-up g c =
+pub loop-trail-smaller-else-not-back_up : goal.loop-trail-smaller-else-not-back_up
+loop-trail-smaller-else-not-back_up g c =
     let o = g.O.CostOrder in
     let me = c.args.order.now in
     let p = problem (o.meaning me) (g.C.Chart.grid c.args.chart.now) in
-    let less = less_back p (o.laws me) c.args.strict (member c.args.bound.now.set) c.reduce.new.trail c.back-up.new.self c.if-not-back-up.ensures.steps (sym c.if-not-back-up.ensures.owed) in
+    let less = less_back p (o.laws me) c.args.strict (member c.args.bound.now.set) c.reduce.new.trail c.back_up.new.self c.if-not-back_up.ensures.steps (sym c.if-not-back_up.ensures.owed) in
     let falls = c.reduce.ensures.narrows.falls in
     omega arith
 
-pub loop-trail-preserved-else-not-back-up : goal.loop-trail-preserved-else-not-back-up
-loop-trail-preserved-else-not-back-up g c =
+pub loop-trail-preserved-else-not-back_up : goal.loop-trail-preserved-else-not-back_up
+loop-trail-preserved-else-not-back_up g c =
     let o = g.O.CostOrder in
     let me = c.args.order.now in
     let p = problem (o.meaning me) (g.C.Chart.grid c.args.chart.now) in
@@ -55,8 +55,8 @@ loop-trail-preserved-else-not-back-up g c =
     let st = c.args.strict in
     let s = c.args.trail.now in
     let w = c.reduce.new.trail in
-    let back = c.if-not-back-up.ensures in
-    leads_back p (o.laws me) st bound s w c.back-up.new.self (leads_reduce p (o.laws me) st bound s c.loop-trail.trail w c.loop-trail.invariant c.reduce.ensures)
+    let back = c.if-not-back_up.ensures in
+    leads_back p (o.laws me) st bound s w c.back_up.new.self (leads_reduce p (o.laws me) st bound s c.loop-trail.trail w c.loop-trail.invariant c.reduce.ensures)
     (subst (Barren p st bound) c.node.ensures c.in-Dead.ensures) back.root back.steps (sym back.owed)
 
 pub loop-trail-smaller : goal.loop-trail-smaller

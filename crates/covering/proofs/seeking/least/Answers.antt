@@ -16,7 +16,7 @@ loop-trail-init g c =
     let m = g.C.Chart.grid c.args.chart.now in
     let p = problem (o.meaning me) m in
     let few = (g.met.C.Chart.small c.args.chart.now).few in
-    let v = c.value-of-best in
+    let v = c.value_of-best in
     let e = sym v.ensures.set in (
       subst (λ (x : ColumnSet). Covers m (member x)) e (λ i l. let w = c.requires i l in let k = w.1 in (w.0, w.1, every_member c.all.result.on c.all.ensures w.0 (omega arith), w.3)),
       record {
@@ -42,8 +42,8 @@ returns-then-not-advance g c =
       value = inv.1;
     }
 
-pub returns-then-not-back-up : goal.returns-then-not-back-up
-returns-then-not-back-up g c =
+pub returns-then-not-back_up : goal.returns-then-not-back_up
+returns-then-not-back_up g c =
     let o = g.O.CostOrder in
     let me = c.args.order.now in
     let m = g.C.Chart.grid c.args.chart.now in
@@ -53,7 +53,7 @@ returns-then-not-back-up g c =
     let inv = c.loop-trail.invariant in
     let w = c.advance.new.trail in
     let ended = c.if-not-advance.ensures in
-    let v = c.value-of-best-in-loop-trail in
+    let v = c.value_of-best-in-loop-trail in
     let e = sym v.ensures.set in
     let f : w.node.taken ≡ v.result.set = ap (λ (n : Node). n.taken) (sym c.node.ensures) ∙ e in
     record {
@@ -61,7 +61,7 @@ returns-then-not-back-up g c =
           (chasing_last p (o.laws me) root (member c.loop-trail.best.set) c.loop-trail.trail w inv.2 ended.0 ended.2
           (subst (λ (n : Node). (k : ℕ) → taken n k ≡ false) r (no_member c.none.result.on c.none.ensures))
           (subst (λ (n : Node). (k : ℕ) → banned n k ≡ false) r (no_member c.none-2.result.on c.none-2.ensures))
-          ended.1 (sym c.if-not-back-up.ensures.owed));
+          ended.1 (sym c.if-not-back_up.ensures.owed));
       value = record {
         total = subst (λ (x : ColumnSet). o.exact me v.result.total ≡ cost p (member x)) e v.ensures.total;
         size = subst (λ (x : ColumnSet). v.result.size ≡ size m (member x)) e v.ensures.size;
@@ -76,7 +76,7 @@ loop-trail-smaller g c =
     let inv = c.loop-trail.invariant in
     let ended = c.if-not-advance.ensures in
     chasing_less p (o.laws me) c.new-trail.result.root (member c.loop-trail.best.set) c.loop-trail.trail c.advance.new.trail inv.2 ended.0 ended.2
-    c.back-up.new.self c.if-not-back-up.ensures.steps (sym c.if-not-back-up.ensures.owed)
+    c.back_up.new.self c.if-not-back_up.ensures.steps (sym c.if-not-back_up.ensures.owed)
 
 pub loop-trail-preserved : goal.loop-trail-preserved
 loop-trail-preserved g c =
@@ -88,8 +88,8 @@ loop-trail-preserved g c =
     let inv = c.loop-trail.invariant in
     let w = c.advance.new.trail in
     let ended = c.if-not-advance.ensures in
-    let back = c.if-not-back-up.ensures in
-    let v = c.value-of-best-in-loop-trail in
+    let back = c.if-not-back_up.ensures in
+    let v = c.value_of-best-in-loop-trail in
     let e = sym v.ensures.set in
     let f : w.node.taken ≡ v.result.set = ap (λ (n : Node). n.taken) (sym c.node.ensures) ∙ e in (
       subst (λ (x : ColumnSet). Covers m (member x)) f ended.1,
@@ -97,6 +97,6 @@ loop-trail-preserved g c =
         total = subst (λ (x : ColumnSet). o.exact me v.result.total ≡ cost p (member x)) e v.ensures.total;
         size = subst (λ (x : ColumnSet). v.result.size ≡ size m (member x)) e v.ensures.size;
       },
-      subst (λ (x : ColumnSet). Chasing p (o.laws me) root (member x) c.back-up.new.self) f
-          (chasing_on p (o.laws me) root (member c.loop-trail.best.set) c.loop-trail.trail w inv.2 ended.0 ended.2 c.back-up.new.self back.root back.steps (sym back.owed)),
+      subst (λ (x : ColumnSet). Chasing p (o.laws me) root (member x) c.back_up.new.self) f
+          (chasing_on p (o.laws me) root (member c.loop-trail.best.set) c.loop-trail.trail w inv.2 ended.0 ended.2 c.back_up.new.self back.root back.steps (sym back.owed)),
     )

@@ -22,7 +22,7 @@ loop-k-preserved c =
     let full : length ds ≡ c.args.needs.now.count = length-take-le c.args.needs.now.count all long in
     let h : k < length ds = omega arith in
     let e : get_or all k (row_need 0) ≡ get_or ds k (row_need 0) = sym (get_or-take c.args.needs.now.count all k (row_need 0) c.loop-k-test.true) in
-    elim c.match-sole-holder.branch [
+    elim c.match-sole_holder.branch [
       | in-Some w ↦
           let at : ℕ = w.in-Some.at in
           let en = subst (λ (d : Need). (at < l.count) × (record_meets d (get_or l.primes at no_prime) ≡ true) × (length (filter (record_meets d) (records_in l)) ≡ 1)) e w.in-Some.ensures in
@@ -30,11 +30,11 @@ loop-k-preserved c =
           let some = en.0 in
           let same = c.loop-k.invariant.0 in
           let inside : at < length l.primes = (let b = c.requires.count in let d = c.requires.few in omega arith) in
-          noting_sole ps ds k (row_need 0) h l c.loop-k.invariant c.match-sole-holder.list at _ en.0 en.1 en.2
+          noting_sole ps ds k (row_need 0) h l c.loop-k.invariant c.match-sole_holder.list at _ en.0 en.1 en.2
           (ap (λ (x : Prime). record { term = x.term; number = x.number; needs = x.needs; essential = true }) (get_d_any l.primes at w.index-list-at.result no_prime inside))
           (ap (λ (x : PrimeList). x.count) w.list-is) (ap (λ (x : PrimeList). x.primes) w.list-is)
       | in_default w ↦
-          noting_none ps ds k (row_need 0) h l c.loop-k.invariant c.match-sole-holder.list w.list-is
+          noting_none ps ds k (row_need 0) h l c.loop-k.invariant c.match-sole_holder.list w.list-is
           (subst (λ (d : Need). length (filter (record_meets d) (records_in l)) ≡ 1 → ⊥) e w.in_default.ensures)
     ]
 

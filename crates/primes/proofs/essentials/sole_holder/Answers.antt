@@ -5,7 +5,7 @@ use Rattle.primes.specs.Records.{no_prime, record_meets, records_in}
 use Rattle.primes.proofs.Needing.{kept_count}
 use Rattle.primes.proofs.Essential.{get_d_any}
 use Rattle.primes.proofs.essentials.sole_holder.Goals as goal
-use Rattle.primes.proofs.essentials.sole_holder.Goals.{then-holds-need, else-holds-need}
+use Rattle.primes.proofs.essentials.sole_holder.Goals.{then-holds_need, else-holds_need}
 
 pub loop-i-preserved : goal.loop-i-preserved
 loop-i-preserved c =
@@ -15,10 +15,10 @@ loop-i-preserved c =
     let inside : i < length xs = search known in
     let a = c.loop-i.invariant.0 in
     let j : c.loop-i.holders ≡ length (filter q (take i xs)) = c.loop-i.invariant.1 in
-    let here : c.holds-need.result ≡ q (get_or xs i no_prime) = c.holds-need.ensures ∙ ap q (get_d_any xs i c.index-list-i.result no_prime inside) in
-    elim c.if-holds-need.branch [
-      | then-holds-need w ↦
-          let y : q (get_or xs i no_prime) ≡ true = sym here ∙ w.if-holds-need.true in
+    let here : c.holds_need.result ≡ q (get_or xs i no_prime) = c.holds_need.ensures ∙ ap q (get_d_any xs i c.index-list-i.result no_prime inside) in
+    elim c.if-holds_need.branch [
+      | then-holds_need w ↦
+          let y : q (get_or xs i no_prime) ≡ true = sym here ∙ w.if-holds_need.true in
           let m : length (filter q (take (i + 1) xs)) ≡ length (filter q (take i xs)) + 1 = kept_count q xs i no_prime true inside y in
           let u = w.holders-is in
           let v = w.last-is in (
@@ -26,8 +26,8 @@ loop-i-preserved c =
             u ∙ ap (λ (x : ℕ). x + 1) j ∙ sym m,
             λ h. (omega arith, ap (λ (x : ℕ). q (get_or xs x no_prime)) v ∙ y),
           )
-      | else-holds-need w ↦
-          let y : q (get_or xs i no_prime) ≡ false = sym here ∙ w.if-holds-need.false in
+      | else-holds_need w ↦
+          let y : q (get_or xs i no_prime) ≡ false = sym here ∙ w.if-holds_need.false in
           let m : length (filter q (take (i + 1) xs)) ≡ length (filter q (take i xs)) + 0 = kept_count q xs i no_prime false inside y in
           let u = w.holders-is in
           let v = w.last-is in (

@@ -41,6 +41,6 @@ returns-else-yes-x g c =
 
 pub returns-in-None : goal.returns-in-None
 returns-in-None g c =
-    c.may-hold.ensures
+    c.may_hold.ensures
     ∙ sym (judged_row (g.S.Source.meaning c.args.source.now) c.args.n c.args.x c.requires.few c.requires.inputs c.requires.number
-    c.levels-of.result c.levels-of.ensures c.in-None.ensures)
+    c.levels_of.result c.levels_of.ensures c.in-None.ensures)

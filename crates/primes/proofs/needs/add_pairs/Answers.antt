@@ -9,8 +9,8 @@ pub loop-row-init : goal.loop-row-init
 loop-row-init g c =
     (c.requires.tidy, begin (is_needed (g.S.Source.meaning c.args.source.now)) (listed c.args.list.now) _ _ (pairs_all c.args.inputs (2 ^ c.args.inputs)))
 
-pub add-pairs-at-requires : goal.add-pairs-at-requires
-add-pairs-at-requires g c =
+pub add_pairs_at-requires : goal.add_pairs_at-requires
+add_pairs_at-requires g c =
     let n : ℕ = 2 ^ c.args.inputs in
     let h : c.loop-row.row < n = search known in
     record {
@@ -25,9 +25,9 @@ pub loop-row-preserved : goal.loop-row-preserved
 loop-row-preserved g c =
     let n : ℕ = 2 ^ c.args.inputs in
     let h : c.loop-row.row < n = search known in (
-      c.add-pairs-at.ensures.tidy,
-      step (is_needed (g.S.Source.meaning c.args.source.now)) (listed c.loop-row.list) (listed c.add-pairs-at.new.list) _ (pairs_at c.loop-row.row 0 c.args.inputs) _ _
-          (pairs_left c.args.inputs c.loop-row.row n h) c.loop-row.invariant.1 c.add-pairs-at.ensures.listed,
+      c.add_pairs_at.ensures.tidy,
+      step (is_needed (g.S.Source.meaning c.args.source.now)) (listed c.loop-row.list) (listed c.add_pairs_at.new.list) _ (pairs_at c.loop-row.row 0 c.args.inputs) _ _
+          (pairs_left c.args.inputs c.loop-row.row n h) c.loop-row.invariant.1 c.add_pairs_at.ensures.listed,
     )
 
 pub returns : goal.returns

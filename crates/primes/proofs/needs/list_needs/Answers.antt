@@ -7,29 +7,29 @@ use Rattle.primes.proofs.Needing.{rows_room, plain_needs, quiet_needs, pairs_roo
 use Rattle.primes.proofs.needs.list_needs.Given as given
 use Rattle.primes.proofs.needs.list_needs.Goals as goal
 
-pub add-rows-requires : goal.add-rows-requires
-add-rows-requires g c =
+pub add_rows-requires : goal.add_rows-requires
+add_rows-requires g c =
     let tb : Table = g.S.Source.meaning c.args.source.now in
     let few : c.inputs-inputs.result ≤ 8 = subst (λ (k : ℕ). k ≤ 8) (sym c.inputs-inputs.ensures) (g.met.S.Source.proper c.args.source.now).few in
-    record { few = few; tidy = c.no-needs-list.ensures.tidy; room = rows_room tb c.inputs-inputs.result c.inputs-inputs.ensures few c.no-needs-list.result c.no-needs-list.ensures.tidy c.no-needs-list.ensures.listed }
+    record { few = few; tidy = c.no_needs-list.ensures.tidy; room = rows_room tb c.inputs-inputs.result c.inputs-inputs.ensures few c.no_needs-list.result c.no_needs-list.ensures.tidy c.no_needs-list.ensures.listed }
 
-pub add-pairs-requires : goal.add-pairs-requires
-add-pairs-requires g c =
+pub add_pairs-requires : goal.add_pairs-requires
+add_pairs-requires g c =
     let tb : Table = g.S.Source.meaning c.args.source.now in
     let few : c.inputs-inputs.result ≤ 8 = subst (λ (k : ℕ). k ≤ 8) (sym c.inputs-inputs.ensures) (g.met.S.Source.proper c.args.source.now).few in
     record {
       few = few;
-      tidy = c.add-rows.ensures.tidy;
-      room = pairs_room tb c.inputs-inputs.result c.inputs-inputs.ensures few c.add-rows.new.list c.add-rows.ensures.tidy
-          (onto _ _ _ _ c.add-rows.ensures.listed c.no-needs-list.ensures.listed);
+      tidy = c.add_rows.ensures.tidy;
+      room = pairs_room tb c.inputs-inputs.result c.inputs-inputs.ensures few c.add_rows.new.list c.add_rows.ensures.tidy
+          (onto _ _ _ _ c.add_rows.ensures.listed c.no_needs-list.ensures.listed);
     }
 
 pub returns-in-Plain : goal.returns-in-Plain
 returns-in-Plain g c =
     let tb : Table = g.S.Source.meaning c.args.source.now in
     let few : c.inputs-inputs.result ≤ 8 = subst (λ (k : ℕ). k ≤ 8) (sym c.inputs-inputs.ensures) (g.met.S.Source.proper c.args.source.now).few in
-    let w = tidy_is c.add-rows.new.list (needs tb c.args.work) c.add-rows.ensures.tidy
-    (onto _ _ _ _ c.add-rows.ensures.listed c.no-needs-list.ensures.listed
+    let w = tidy_is c.add_rows.new.list (needs tb c.args.work) c.add_rows.ensures.tidy
+    (onto _ _ _ _ c.add_rows.ensures.listed c.no_needs-list.ensures.listed
     ∙ plain_needs tb c.inputs-inputs.result c.inputs-inputs.ensures few ∙ ap (needs tb) (sym c.in-Plain.is)) in
     record { table = w.0; count = w.1 }
 
@@ -37,8 +37,8 @@ pub returns-in-HazardFree : goal.returns-in-HazardFree
 returns-in-HazardFree g c =
     let tb : Table = g.S.Source.meaning c.args.source.now in
     let few : c.inputs-inputs.result ≤ 8 = subst (λ (k : ℕ). k ≤ 8) (sym c.inputs-inputs.ensures) (g.met.S.Source.proper c.args.source.now).few in
-    let rows = onto _ _ _ _ c.add-rows.ensures.listed c.no-needs-list.ensures.listed in
-    let w = tidy_is c.add-pairs.new.list (needs tb c.args.work) c.add-pairs.ensures.tidy
-    (onto _ _ _ _ c.add-pairs.ensures.listed rows
+    let rows = onto _ _ _ _ c.add_rows.ensures.listed c.no_needs-list.ensures.listed in
+    let w = tidy_is c.add_pairs.new.list (needs tb c.args.work) c.add_pairs.ensures.tidy
+    (onto _ _ _ _ c.add_pairs.ensures.listed rows
     ∙ quiet_needs tb c.inputs-inputs.result c.inputs-inputs.ensures few ∙ ap (needs tb) (sym c.in-HazardFree.is)) in
     record { table = w.0; count = w.1 }

@@ -20,8 +20,8 @@ returns c =
     let xs : List Prime = c.args.list.now.primes in
     let at : ℕ = c.args.list.now.count in
     let ds : List Need = listed c.args.needs.now in
-    let first : Prime = fresh c.term-at.result c.args.x in
+    let first : Prime = fresh c.term_at.result c.args.x in
     let inside : at < length xs = search known in
-    let e : c.count-needs.new.prime ≡ counted ds (fresh (term_of c.args.x) c.args.x) =
-    c.count-needs.ensures ∙ ap (counted ds) (get_or-set_same xs at first c.index-list-at-2.result inside) ∙ ap (λ (t : Term). counted ds (fresh t c.args.x)) c.term-at.ensures in
-    record { table = set-set xs at first c.count-needs.new.prime ∙ ap (set xs at) e; count = refl }
+    let e : c.count_needs.new.prime ≡ counted ds (fresh (term_of c.args.x) c.args.x) =
+    c.count_needs.ensures ∙ ap (counted ds) (get_or-set_same xs at first c.index-list-at-2.result inside) ∙ ap (λ (t : Term). counted ds (fresh t c.args.x)) c.term_at.ensures in
+    record { table = set-set xs at first c.count_needs.new.prime ∙ ap (set xs at) e; count = refl }

@@ -9,20 +9,20 @@ use Rattle.reductions.proofs.Narrowing.{spared, enough_open, enough_kept}
 use Rattle.reductions.proofs.Trailing.{narrowed_none, narrowed_more, narrowed_fix, fix_keeps_taken, fix_keeps_banned}
 use Rattle.reductions.proofs.reducing.drop_columns.Goals as goal
 
-pub drop-needs-requires : goal.drop-needs-requires
-drop-needs-requires g c =
+pub drop_needs-requires : goal.drop_needs-requires
+drop_needs-requires g c =
     let m = g.C.Chart.grid c.args.chart.now in
     let n = c.args.trail.now.node in
-    let ns = wants c.open-needs-needs.result in
+    let ns = wants c.open_needs-needs.result in
     let Shut : Node → Type 0 = λ x. (i : ℕ) → i < m.wanted → ns i ≡ false → Held m (taken x) i in
     let Stays : Node → Type 0 = λ x. Enough m (taken x) (banned x) ns in
-    subst Stays (sym c.node-2.ensures) (enough_open m (taken n) (banned n) ns (subst Shut c.node.ensures c.open-needs-needs.ensures.closed))
+    subst Stays (sym c.node-2.ensures) (enough_open m (taken n) (banned n) ns (subst Shut c.node.ensures c.open_needs-needs.ensures.closed))
 
 pub loop-a-init : goal.loop-a-init
 loop-a-init g c =
     let m = g.C.Chart.grid c.args.chart.now in
-    let Stays : Node → Type 0 = λ x. Enough m (taken x) (banned x) (wants c.drop-needs.new.needs) in
-    (narrowed_none _ c.args.trail.now, subst Stays c.node-2.ensures c.drop-needs.ensures)
+    let Stays : Node → Type 0 = λ x. Enough m (taken x) (banned x) (wants c.drop_needs.new.needs) in
+    (narrowed_none _ c.args.trail.now, subst Stays c.node-2.ensures c.drop_needs.ensures)
 
 pub loop-a-preserved : goal.loop-a-preserved
 loop-a-preserved g c =
@@ -33,11 +33,11 @@ loop-a-preserved g c =
     let s = c.loop-a.trail in
     let s' = c.fix.new.self in
     let a = c.loop-a.a in
-    let ns = wants c.drop-needs.new.needs in
+    let ns = wants c.drop_needs.new.needs in
     let la : a < m.width = omega (arith, c.columns-a-end.ensures) in
-    let free = free_parts (taken s.node) (banned s.node) a (sym c.if-not-is-free.ensures) in
+    let free = free_parts (taken s.node) (banned s.node) a (sym c.if-not-is_free.ensures) in
     let Spares : Node → Type 0 = λ x. Spare p (banned x) ns a in
-    let spare : Spares s.node = subst Spares c.node-in-loop-a.ensures (c.if-not-is-spare.ensures refl) in
+    let spare : Spares s.node = subst Spares c.node-in-loop-a.ensures (c.if-not-is_spare.ensures refl) in
     let enough = c.loop-a.invariant.1 in (
       narrowed_more p c.args.trail.now s s' c.loop-a.invariant.0
           (narrowed_fix p s s' a false c.fix.ensures.root c.fix.ensures.steps

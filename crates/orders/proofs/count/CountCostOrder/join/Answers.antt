@@ -16,6 +16,6 @@ returns c =
           let a1 = ap (λ (x : ℕ × ℕ). x.1) ea in
           let b0 = ap (λ (x : ℕ × ℕ). x.0) eb in
           let b1 = ap (λ (x : ℕ × ℕ). x.1) eb in
-          ap₂ (λ (x y : ℕ). (x, y)) (c.saturating-add.ensures ∙ omega arith) (c.saturating-add-2.ensures ∙ omega arith);
-      value = ap₂ (λ (x y : ℕ). (x, y)) c.saturating-add.ensures c.saturating-add-2.ensures;
+          ap₂ (λ (x y : ℕ). (x, y)) (c.saturating_add.ensures ∙ omega arith) (c.saturating_add-2.ensures ∙ omega arith);
+      value = ap₂ (λ (x y : ℕ). (x, y)) c.saturating_add.ensures c.saturating_add-2.ensures;
     }

@@ -10,22 +10,22 @@ loop-k-preserved c =
     let k : ℕ = c.loop-k.k in
     let long : k < length ps = search known in
     ap (λ (j : ℕ). all_small (drop j ps)) (add-one k)
-    ∙ sym (small_here ps k 0 long ∙ ap (λ (b : Bool). b && all_small (drop (suc k) ps)) (le-leb (get_or ps k 0) 1000 c.if-prices-k-gt-HIGHEST-PRICE.false))
+    ∙ sym (small_here ps k 0 long ∙ ap (λ (b : Bool). b && all_small (drop (suc k) ps)) (le-leb (get_or ps k 0) 1000 c.if-prices-k-gt-HIGHEST_PRICE.false))
     ∙ c.loop-k.invariant
 
-pub returns-then-prices-k-gt-HIGHEST-PRICE : goal.returns-then-prices-k-gt-HIGHEST-PRICE
-returns-then-prices-k-gt-HIGHEST-PRICE c =
+pub returns-then-prices-k-gt-HIGHEST_PRICE : goal.returns-then-prices-k-gt-HIGHEST_PRICE
+returns-then-prices-k-gt-HIGHEST_PRICE c =
     let ps : List ℕ = c.args.prices in
     let k : ℕ = c.loop-k.k in
     let long : k < length ps = search known in
     let e : all_small ps ≡ false =
-    sym c.loop-k.invariant ∙ small_here ps k 0 long ∙ ap (λ (b : Bool). b && all_small (drop (suc k) ps)) (lt-leb (get_or ps k 0) 1000 c.if-prices-k-gt-HIGHEST-PRICE.true) in
+    sym c.loop-k.invariant ∙ small_here ps k 0 long ∙ ap (λ (b : Bool). b && all_small (drop (suc k) ps)) (lt-leb (get_or ps k 0) 1000 c.if-prices-k-gt-HIGHEST_PRICE.true) in
     record { result = rw e refl; after = rw e refl }
 
 pub invariant_of-self : goal.invariant_of-self
 invariant_of-self c =
     let long : length c.args.prices ≤ c.loop-k.k = search known in
-    (sym c.loop-k.invariant ∙ small_none c.args.prices c.loop-k.k long, tt)
+    record { small = sym c.loop-k.invariant ∙ small_none c.args.prices c.loop-k.k long }
 
 pub returns : goal.returns
 returns c =

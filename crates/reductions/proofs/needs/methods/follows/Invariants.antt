@@ -3,4 +3,4 @@ use Rattle.charts.specs.Sets.{member}
 use Rattle.reductions.proofs.needs.methods.follows.Given as goal
 
 abbrev pub invariant-loop-c : goal.invariant-loop-c
-invariant-loop-c g l = (c : ℕ) → c < l.c → (g.C.Chart.grid l.chart).held c l.i ≡ true → (member l.left-out c ≡ true) ⊎ ((g.C.Chart.grid l.chart).held c l.j ≡ true)
+invariant-loop-c g l = (c : ℕ) → c < l.c → (g.C.Chart.grid l.chart).held c l.i ≡ true → (member l.left_out c ≡ true) ⊎ ((g.C.Chart.grid l.chart).held c l.j ≡ true)

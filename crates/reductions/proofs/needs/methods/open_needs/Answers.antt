@@ -11,8 +11,8 @@ loop-i-preserved g c =
       simp length-set c.loop-i.invariant.0,
       below_more _ _
           (λ k h. let ne : k ≢ i = omega arith in λ e. c.loop-i.invariant.1 k h (sym (get_or-set_other xs i k _ false ne) ∙ e))
-          (λ e. c.held-by.ensures.holds (not-false _ (sym (get_or-set_same xs i _ false lt) ∙ e))),
+          (λ e. c.held_by.ensures.holds (not-false _ (sym (get_or-set_same xs i _ false lt) ∙ e))),
       below_more _ _
           (λ k h. let ne : k ≢ i = omega arith in λ e. c.loop-i.invariant.2 k h (sym (get_or-set_other xs i k _ false ne) ∙ e))
-          (λ e. c.held-by.ensures.lacks (not-true _ (sym (get_or-set_same xs i _ false lt) ∙ e))),
+          (λ e. c.held_by.ensures.lacks (not-true _ (sym (get_or-set_same xs i _ false lt) ∙ e))),
     )

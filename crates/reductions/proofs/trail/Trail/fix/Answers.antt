@@ -12,7 +12,7 @@ bounds-self-len c =
     let t = member s.root.taken in
     let b = member s.root.banned in
     let r = up_to s.steps s.len in
-    let free = free_like t b r c.args.column (taken s.node) (banned s.node) s.taken s.banned (sym c.if-not-is-free.ensures) in
+    let free = free_like t b r c.args.column (taken s.node) (banned s.node) s.taken s.banned (sym c.if-not-is_free.ensures) in
     let room = fresh_room t b r c.args.column free s.fresh in
     omega (arith, length_up_to s.steps s.len)
 
@@ -23,9 +23,9 @@ invariant_of-self c =
     let b = member s.root.banned in
     let r = up_to s.steps s.len in
     let e = step c.args.column c.args.takes c.args.decided in
-    let parts = free_parts (taken s.node) (banned s.node) c.args.column (sym c.if-not-is-free.ensures) in
+    let parts = free_parts (taken s.node) (banned s.node) c.args.column (sym c.if-not-is_free.ensures) in
     let small : c.args.column < 256 = parts.0 in
-    let free = free_like t b r c.args.column (taken s.node) (banned s.node) s.taken s.banned (sym c.if-not-is-free.ensures) in
+    let free = free_like t b r c.args.column (taken s.node) (banned s.node) s.taken s.banned (sym c.if-not-is_free.ensures) in
     let room = fresh_room t b r c.args.column free s.fresh in
     let top : s.len < 256 = omega (arith, length_up_to s.steps s.len) in
     let pushed : up_to (set s.steps s.len e) (s.len + 1) ≡ e ∷ r = up_to_push s.steps s.len e (search rules) in
@@ -53,10 +53,10 @@ returns c =
     let t = member s.root.taken in
     let b = member s.root.banned in
     let r = up_to s.steps s.len in
-    let free = free_like t b r c.args.column (taken s.node) (banned s.node) s.taken s.banned (sym c.if-not-is-free.ensures) in
+    let free = free_like t b r c.args.column (taken s.node) (banned s.node) s.taken s.banned (sym c.if-not-is_free.ensures) in
     let room = fresh_room t b r c.args.column free s.fresh in
     let top : s.len < 256 = omega (arith, length_up_to s.steps s.len) in
     record {
       root = refl;
-      steps = up_to_push s.steps s.len e (search rules) ∙ ap (λ (y : Bool). cond y (e ∷ steps_of s) (steps_of s)) c.if-not-is-free.ensures;
+      steps = up_to_push s.steps s.len e (search rules) ∙ ap (λ (y : Bool). cond y (e ∷ steps_of s) (steps_of s)) c.if-not-is_free.ensures;
     }

@@ -26,10 +26,4 @@ pub invariant_of-self : goal.invariant_of-self
 invariant_of-self c =
     let marks : List Mark = c.args.self.now.marks in
     let same : length c.paint.new.marks ≡ length (mid_of 0 (c.rows-rows.result - 0) marks) =
-    ap length c.paint.ensures ∙ length_painted (holds c.in_ok-term.term) c.in_ok-mark.mark 0 (mid_of 0 (c.rows-rows.result - 0) marks) in (
-      c.args.self.now.some,
-      (
-        c.args.self.now.few,
-        (same_len_mid 0 (c.rows-rows.result - 0) marks c.paint.new.marks same ∙ c.args.self.now.whole, tt),
-      ),
-    )
+    ap length c.paint.ensures ∙ length_painted (holds c.in_ok-term.term) c.in_ok-mark.mark 0 (mid_of 0 (c.rows-rows.result - 0) marks) in record { some = c.args.self.now.some; few = c.args.self.now.few; whole = same_len_mid 0 (c.rows-rows.result - 0) marks c.paint.new.marks same ∙ c.args.self.now.whole }

@@ -13,4 +13,4 @@ returns-else-row-inputs g c =
     let e : in_force tb.inputs o ≡ Some c.in-Some.setting = ap (λ (n : ℕ). in_force n o) (sym c.inputs-inputs.ensures) ∙ sym c.in-Some.ensures in
     let q : c.args.row < 2 ^ (c.inputs-inputs.result - 1) = search rules in
     let l : c.args.row < 2 ^ (tb.inputs - 1) = subst (λ (n : ℕ). c.args.row < 2 ^ (n - 1)) c.inputs-inputs.ensures q in
-    c.look-in-Some.ensures ∙ ap (looked tb) c.put-in.ensures ∙ looked_through tb o c.in-Some.setting c.args.row (g.met.S.Source.proper c.args.self.now.below) e l
+    c.look-in-Some.ensures ∙ ap (looked tb) c.put_in.ensures ∙ looked_through tb o c.in-Some.setting c.args.row (g.met.S.Source.proper c.args.self.now.below) e l

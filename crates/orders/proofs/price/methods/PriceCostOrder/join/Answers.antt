@@ -8,6 +8,6 @@ returns c =
       exact = λ ts us ea eb few.
           let p = prices_small c.args.self.now.prices ts c.args.self.now.small in
           let q = prices_small c.args.self.now.prices us c.args.self.now.small in
-          c.saturating-add.ensures ∙ omega arith;
-      value = c.saturating-add.ensures;
+          c.saturating_add.ensures ∙ omega arith;
+      value = c.saturating_add.ensures;
     }
