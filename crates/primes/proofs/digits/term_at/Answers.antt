@@ -41,7 +41,7 @@ invariant_of-result c =
     let e = cube_end 8 c.loop-i.i c.args.x c.loop-i-test.false in
     let p : c.loop-i.mask ≡ mask_in (cube_of 8 c.args.x) = c.loop-i.invariant.0 ∙ ap mask_in e in
     let q : c.loop-i.levels ≡ levels_in (cube_of 8 c.args.x) = c.loop-i.invariant.1 ∙ ap levels_in e in
-    (ap₂ bit_and q p ∙ levels_in_mask (cube_of 8 c.args.x) ∙ sym q, (subst (λ (m : ℕ). m < 256) (sym p) (mask_of_lt 8 c.args.x), tt))
+    record { within = ap₂ bit_and q p ∙ levels_in_mask (cube_of 8 c.args.x) ∙ sym q; byte = subst (λ (m : ℕ). m < 256) (sym p) (mask_of_lt 8 c.args.x) }
 
 pub returns : goal.returns
 unfolding term_of

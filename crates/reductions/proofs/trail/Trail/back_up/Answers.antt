@@ -27,19 +27,13 @@ invariant_of-self-2 c =
     let l : k < length s.steps = search rules in
     let room = s.room in
     let lower = w.0 in
-    let pushed : up_to (set s.steps k e) (k + 1) ≡ backed (steps_of s) = up_to_push s.steps k e l ∙ sym w.2 in (
-      omega arith,
-      (
-        ap (is_fresh (member s.root.taken) (member s.root.banned)) pushed ∙ fresh_back (member s.root.taken) (member s.root.banned) (steps_of s) s.fresh,
-        (
-          c.replay-node.ensures.taken,
-          (
-            c.replay-node.ensures.banned,
-            tt,
-          ),
-        ),
-      ),
-    )
+    let pushed : up_to (set s.steps k e) (k + 1) ≡ backed (steps_of s) = up_to_push s.steps k e l ∙ sym w.2 in
+    record {
+      room = omega arith;
+      fresh = ap (is_fresh (member s.root.taken) (member s.root.banned)) pushed ∙ fresh_back (member s.root.taken) (member s.root.banned) (steps_of s) s.fresh;
+      taken = c.replay-node.ensures.taken;
+      banned = c.replay-node.ensures.banned;
+    }
 
 pub returns : goal.returns
 returns c =

@@ -30,21 +30,17 @@ invariant_of-self c =
     let top : s.len < 256 = omega (arith, length_up_to s.steps s.len) in
     let pushed : up_to (set s.steps s.len e) (s.len + 1) ≡ e ∷ r = up_to_push s.steps s.len e (search rules) in
     let in_taken : c.args.column < length s.node.taken.on = omega (arith, s.node.taken.full) in
-    let in-banned : c.args.column < length s.node.banned.on = omega (arith, s.node.banned.full) in (
-      omega arith,
-      (
-        ap (is_fresh t b) pushed ∙ fresh_more t b e r free s.fresh,
-        (
-          taken_next t r (up_to (set s.steps s.len e) (s.len + 1)) e (taken s.node) (taken c.mark.new.self) pushed s.taken
-              (λ k. marked_taken c.args.takes s.node.taken.on c.mark.new.self.taken.on c.args.column k in_taken c.mark.ensures.taken),
-          (
-            banned_next b r (up_to (set s.steps s.len e) (s.len + 1)) e (banned s.node) (banned c.mark.new.self) pushed s.banned
-                (λ k. marked_banned c.args.takes s.node.banned.on c.mark.new.self.banned.on c.args.column k in-banned c.mark.ensures.banned),
-            tt,
-          ),
-        ),
-      ),
-    )
+    let in_banned : c.args.column < length s.node.banned.on = omega (arith, s.node.banned.full) in
+    record {
+      room = omega arith;
+      fresh = ap (is_fresh t b) pushed ∙ fresh_more t b e r free s.fresh;
+      taken =
+        taken_next t r (up_to (set s.steps s.len e) (s.len + 1)) e (taken s.node) (taken c.mark.new.self) pushed s.taken
+            (λ k. marked_taken c.args.takes s.node.taken.on c.mark.new.self.taken.on c.args.column k in_taken c.mark.ensures.taken);
+      banned =
+        banned_next b r (up_to (set s.steps s.len e) (s.len + 1)) e (banned s.node) (banned c.mark.new.self) pushed s.banned
+            (λ k. marked_banned c.args.takes s.node.banned.on c.mark.new.self.banned.on c.args.column k in_banned c.mark.ensures.banned);
+    }
 
 pub returns : goal.returns
 returns c =
