@@ -1,7 +1,6 @@
 // Small charts to try the search on.
 ghost use Rattle.std.specs.Prelude.{◌≤◌};
-ghost use Rattle.covering_trials.specs.Samples.{sample_grid};
-ghost use borrow.Author.Rules;
+ghost use Rattle.covering_trials.specs.Samples.{sample_grid, sample_grid_small};
 
 use charts::Chart;
 use orders::CostOrder;
@@ -23,7 +22,7 @@ pub struct Sample {
 impl Chart for Sample {
     ghost grid = { sample_grid };
 
-    ghost small = { Prim.search Needs.needs };
+    ghost small = { sample_grid_small };
 
     fn columns(&self) -> usize {
         self.columns.min(MOST_COLUMNS)

@@ -1,7 +1,6 @@
 // The chart of the primes of a table: a column for each prime, in order.
 ghost use Rattle.std.specs.Prelude.{◌≡◌};
-ghost use Rattle.covers.specs.Charting.{prime_grid, prime_at};
-ghost use borrow.Author.Rules;
+ghost use Rattle.covers.specs.Charting.{prime_grid, prime_grid_small, prime_at};
 
 use charts::Chart;
 use orders::CostOrder;
@@ -27,7 +26,7 @@ impl PrimeChart {
 impl Chart for PrimeChart {
     ghost grid = { λ c. prime_grid c.list c.needs };
 
-    ghost small = { Prim.search Needs.needs };
+    ghost small = { λ c. prime_grid_small c.list c.needs };
 
     fn columns(&self) -> usize {
         self.list.count.min(256)

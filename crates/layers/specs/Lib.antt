@@ -1,3 +1,2 @@
 pub mod Layers
-pub mod Layering
-pub mod PutIn
+pub mod ProperLayers

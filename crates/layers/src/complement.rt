@@ -1,7 +1,7 @@
 // The complement of any source: ON and OFF change places, FREE stays.
 ghost use Rattle.std.specs.Prelude.{◌≡◌};
 ghost use Rattle.layers.specs.Layers.{complement, opposite, ComplementTwice};
-ghost use Rattle.layers.specs.Layering.{complement_proper};
+ghost use Rattle.layers.specs.ProperLayers.{complement_proper};
 
 use sources::Source;
 use terms::{Mark, Refusal};

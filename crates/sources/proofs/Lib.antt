@@ -1,2 +1,5 @@
+pub mod Judging
+pub mod Looking
 pub mod Painting
 pub mod Following
+pub mod Listing

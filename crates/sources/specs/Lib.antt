@@ -3,6 +3,4 @@ pub mod Sources
 pub mod Calls
 pub mod Model
 pub mod TermLists
-pub mod Listing
-pub mod Looking
-pub mod Judging
+pub mod ProperTables

@@ -1,7 +1,7 @@
 // A cofactor as a source.
 ghost use Rattle.std.specs.Prelude.{◌≡◌, ◌<◌};
 ghost use Rattle.layers.specs.Layers.{view, in_force, put_in};
-ghost use Rattle.layers.specs.Layering.{view_proper};
+ghost use Rattle.layers.specs.ProperLayers.{view_proper};
 
 use crate::cofactor::Cofactor;
 use crate::setting::Setting;

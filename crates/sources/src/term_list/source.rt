@@ -1,7 +1,7 @@
 // A term list as a source.
 ghost use Rattle.std.specs.Prelude.{◌≡◌, map};
 ghost use Rattle.sources.specs.TermLists.{bytes, some_holds, mark_by, term_table};
-ghost use Rattle.sources.specs.Listing.{listed_proper};
+ghost use Rattle.sources.specs.ProperTables.{listed_proper};
 
 use crate::source::Source;
 use crate::term_list::TermList;

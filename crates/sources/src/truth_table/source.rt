@@ -1,6 +1,6 @@
 // A truth table as a source.
 ghost use Rattle.sources.specs.Calls.{table};
-ghost use Rattle.std.proofs.Common.{rules, arith};
+ghost use Rattle.sources.specs.ProperTables.{table_proper};
 
 use crate::source::Source;
 use crate::truth_table::TruthTable;
@@ -9,7 +9,7 @@ use terms::{Mark, Refusal};
 impl Source for TruthTable {
     ghost meaning = { table };
 
-    ghost proper = { first_of (Prim.search rules, Prim.grind (arith, Self.row.coded.inj)) };
+    ghost proper = { table_proper };
 
     fn inputs(&self) -> usize {
         self.inputs

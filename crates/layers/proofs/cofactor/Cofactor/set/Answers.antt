@@ -1,8 +1,8 @@
 use Rattle.std.proofs.Common.{◌≡◌, refl, ◌∙◌, arith}
 use Rattle.terms.specs.Tables.{Table}
 use Rattle.layers.specs.Layers.{view}
-use Rattle.layers.specs.PutIn.{put_in_bits}
-use Rattle.layers.specs.Layering.{hold_passes, hold_missing, hold_only, cofactor_rows, layers_commute, view_held}
+use Rattle.layers.proofs.PutIn.{put_in_bits}
+use Rattle.layers.proofs.Layering.{hold_passes, hold_missing, hold_only, cofactor_rows, layers_commute, view_held}
 use Rattle.layers.proofs.cofactor.Cofactor.set.Goals as goal
 
 pub returns-then-input-inputs : goal.returns-then-input-inputs

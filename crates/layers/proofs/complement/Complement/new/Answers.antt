@@ -1,5 +1,5 @@
 use Rattle.std.proofs.Common.{refl}
-use Rattle.layers.specs.Layering.{complement_twice}
+use Rattle.layers.proofs.Layering.{complement_twice}
 use Rattle.layers.proofs.complement.Complement.new.Goals as goal
 
 pub returns : goal.returns

@@ -1,4 +1,4 @@
-use Rattle.layers.specs.Layering.{looked_complement}
+use Rattle.layers.proofs.Layering.{looked_complement}
 use Rattle.layers.proofs.complement.ComplementSource.look.Goals as goal
 
 pub returns : goal.returns

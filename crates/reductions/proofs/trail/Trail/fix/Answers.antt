@@ -35,11 +35,11 @@ invariant_of-self c =
       room = omega arith;
       fresh = ap (is_fresh t b) pushed ∙ fresh_more t b e r free s.fresh;
       taken =
-        taken_next t r (up_to (set s.steps s.len e) (s.len + 1)) e (taken s.node) (taken c.mark.new.self) pushed s.taken
-            (λ k. marked_taken c.args.takes s.node.taken.on c.mark.new.self.taken.on c.args.column k in_taken c.mark.ensures.taken);
+          taken_next t r (up_to (set s.steps s.len e) (s.len + 1)) e (taken s.node) (taken c.mark.new.self) pushed s.taken
+          (λ k. marked_taken c.args.takes s.node.taken.on c.mark.new.self.taken.on c.args.column k in_taken c.mark.ensures.taken);
       banned =
-        banned_next b r (up_to (set s.steps s.len e) (s.len + 1)) e (banned s.node) (banned c.mark.new.self) pushed s.banned
-            (λ k. marked_banned c.args.takes s.node.banned.on c.mark.new.self.banned.on c.args.column k in_banned c.mark.ensures.banned);
+          banned_next b r (up_to (set s.steps s.len e) (s.len + 1)) e (banned s.node) (banned c.mark.new.self) pushed s.banned
+          (λ k. marked_banned c.args.takes s.node.banned.on c.mark.new.self.banned.on c.args.column k in_banned c.mark.ensures.banned);
     }
 
 pub returns : goal.returns

@@ -2,7 +2,7 @@ use Rattle.std.proofs.Common.{◌≡◌, ℕ, suc, ◌+◌, Bool, ◌||◌, map,
 use Rattle.terms.specs.declared.term.Term.{Term}
 use Rattle.terms.specs.Terms.{holds}
 use Rattle.sources.specs.TermLists.{bytes, some_holds}
-use Rattle.sources.specs.Listing.{holds_here, holds_none}
+use Rattle.sources.proofs.Listing.{holds_here, holds_none}
 use Rattle.sources.proofs.term_list.source.some_holds.Goals as goal
 
 pub returns-then-holds : goal.returns-then-holds

@@ -1,5 +1,5 @@
 use Rattle.std.proofs.Common.{◌≡◌, ℕ, ◌≤◌, sym, refl, ap, ◌∙◌, arith}
-use Rattle.sources.specs.Judging.{size_passes}
+use Rattle.sources.proofs.Judging.{size_passes}
 use Rattle.sources.proofs.Painting.{blank_marks}
 use Rattle.sources.proofs.truth_table.TruthTable.size.Goals as goal
 

@@ -3,7 +3,7 @@ use borrow.Rule.Slice.PartMut.{mid_of, same_len_mid}
 use Rattle.terms.specs.declared.mark.Mark.{Mark}
 use Rattle.terms.specs.Terms.{holds}
 use Rattle.sources.specs.Calls.{entered}
-use Rattle.sources.specs.Judging.{sweep_passes, code_named}
+use Rattle.sources.proofs.Judging.{sweep_passes, code_named}
 use Rattle.sources.proofs.Painting.{table_eq, length_painted, swept_marks}
 use Rattle.sources.proofs.truth_table.TruthTable.sweep.Goals as goal
 

@@ -3,7 +3,7 @@ use Rattle.terms.specs.Tables.{Table}
 use Rattle.layers.specs.declared.setting.Setting.{Setting}
 use Rattle.sources.specs.Sources.{looked}
 use Rattle.layers.specs.Layers.{in_force}
-use Rattle.layers.specs.Layering.{looked_through}
+use Rattle.layers.proofs.Layering.{looked_through}
 use Rattle.layers.proofs.cofactor.source.CofactorSource.look.Goals as goal
 
 pub returns-else-row-inputs : goal.returns-else-row-inputs

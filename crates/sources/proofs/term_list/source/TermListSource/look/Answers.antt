@@ -1,7 +1,7 @@
 use Rattle.std.proofs.Common.{◌≡◌, ℕ, ◌^◌, ◌<◌, List, map, Ok, vec_items, ap, ◌∙◌, ap₂, rules}
 use Rattle.terms.specs.declared.term.Term.{Term}
 use Rattle.sources.specs.TermLists.{bytes, mark_by}
-use Rattle.sources.specs.Listing.{looked_listed}
+use Rattle.sources.proofs.Listing.{looked_listed}
 use Rattle.sources.proofs.term_list.source.TermListSource.look.Goals as goal
 
 pub returns : goal.returns

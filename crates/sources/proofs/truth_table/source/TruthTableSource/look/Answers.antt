@@ -1,6 +1,6 @@
 use Rattle.std.proofs.Common.{◌≡◌, ℕ, ◌^◌, ◌<◌, get_or, take, sym, refl, ap, ◌∙◌, arith, get_or-take}
 use Rattle.terms.specs.declared.mark.Mark.TheVariants.{Off}
-use Rattle.sources.specs.Judging.{look_passes}
+use Rattle.sources.proofs.Judging.{look_passes}
 use Rattle.sources.proofs.truth_table.source.TruthTableSource.look.Goals as goal
 
 pub returns : goal.returns

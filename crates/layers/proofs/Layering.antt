@@ -15,8 +15,9 @@ use Rattle.sources.specs.Rules.{judged, settled, look_breaks}
 use Rattle.sources.specs.Sources.{looked}
 use Rattle.layers.specs.Layers.{opposite, complement, put_in, cofactor, hold_breaks, in_force, through, view, ComplementTwice, CofactorRows, LayersCommute}
 use Rattle.sources.proofs.Painting.{table_eq}
-use Rattle.sources.specs.Looking.{looked_in, looked_found}
-use Rattle.layers.specs.PutIn.{put_in_lt}
+use Rattle.sources.proofs.Looking.{looked_in, looked_found}
+use Rattle.layers.specs.ProperLayers.{in_force_lem, more_than_one}
+use Rattle.layers.proofs.PutIn.{put_in_lt}
 
 -- ---- complement
 opposite_twice : (m : Mark) → opposite (opposite m) ≡ m
@@ -39,9 +40,6 @@ get_d_map_in f (x ∷ xs) (suc i) d e h = get_d_map_in f xs i d e (le_of_suc-le-
 pub mark_complement : (tb : Table) (row : ℕ) → Proper tb → row < rows tb → mark_at (complement tb) row ≡ opposite (mark_at tb row)
 mark_complement tb row p h = get_d_map_in opposite tb.marks row Off Off (subst (λ (n : ℕ). row < n) (sym p.full) h)
 
-pub complement_proper : (tb : Table) → Proper tb → Proper (complement tb)
-complement_proper tb p = record { some = p.some; few = p.few; full = length-map tb.marks opposite ∙ p.full }
-
 pub looked_complement : (tb : Table) (row : ℕ) (m n : Mark) → Proper tb → Ok m ≡ looked tb row → n ≡ opposite m → Ok n ≡ looked (complement tb) row
 looked_complement tb row m n p e q =
     let f = looked_found tb row m e in
@@ -57,43 +55,9 @@ hold_missing n i h = rw (le-leb n i h) refl
 pub hold_only : (n i : ℕ) → i < n → n ≡ 1 → hold_breaks n i ≡ Some OnlyInput
 hold_only n i h k = rw (lt-leb n i h, eq-eqb n 1 k) refl
 
--- an input that can be held is there, and is not the only one
-held_fits : (n i : ℕ) → hold_breaks n i ≡ None → (i < n) × (n ≢ 1)
-held_fits n i e = go (nat_le n i) (n == 1) (leb-false n i) (eqb-false n 1) e
-  where
-    go : (a b : Bool) → (a ≡ false → i < n) → (b ≡ false → n ≢ 1)
-        → ◌≡◌ {A = Option Refusal} (cond a (Some NoSuchInput) (cond b (Some OnlyInput) None)) None → (i < n) × (n ≢ 1)
-    go true b f g e = let z : ◌≡◌ {A = ℕ} 0 1 = cc in absurd (omega arith)
-    go false true f g e = let z : ◌≡◌ {A = ℕ} 0 1 = cc in absurd (omega arith)
-    go false false f g e = (f refl, g refl)
-
--- a setting that counts is one that can be held
-pub in_force_lem : (n : ℕ) (o : Option Setting) (s : Setting) → in_force n o ≡ Some s → (s.input < n) × (n ≢ 1)
-in_force_lem n None s e = let z : ◌≡◌ {A = ℕ} 0 1 = cc in absurd (omega arith)
-in_force_lem n (Some t) s e = go (hold_breaks n t.input) refl e
-  where
-    go : (x : Option Refusal) → hold_breaks n t.input ≡ x → settled x None (Some t) ≡ Some s → (s.input < n) × (n ≢ 1)
-    go None h e = let q : t ≡ s = cc in subst (λ (u : Setting). (u.input < n) × (n ≢ 1)) q (held_fits n t.input h)
-    go (Some x) h e = let z : ◌≡◌ {A = ℕ} 0 1 = cc in absurd (omega arith)
-
 pub cofactor_rows : CofactorRows
 cofactor_rows tb i b p h k r l =
     (put_in_lt tb.inputs i b r h l, get_or-map-range_with_len (λ r. mark_at tb (put_in i b r)) 0 (2 ^ (tb.inputs - 1)) r r Off l (omega arith))
-
-cofactor_proper : (tb : Table) (i : ℕ) (b : Bool) → Proper tb → 1 < tb.inputs → Proper (cofactor i b tb)
-cofactor_proper tb i b p k =
-    let f = p.few in
-    record { some = omega arith; few = omega arith; full = length-map-range_with_len (λ r. mark_at tb (put_in i b r)) 0 (2 ^ (tb.inputs - 1)) }
-
-more_than_one : (tb : Table) → Proper tb → (tb.inputs ≢ 1) → 1 < tb.inputs
-more_than_one tb p k = let s = p.some in omega arith
-
-pub view_proper : (o : Option Setting) (tb : Table) → Proper tb → Proper (view o tb)
-view_proper o tb p = go (in_force tb.inputs o) refl
-  where
-    go : (x : Option Setting) → in_force tb.inputs o ≡ x → Proper (through x tb)
-    go None e = p
-    go (Some s) e = cofactor_proper tb s.input s.level p (more_than_one tb p (in_force_lem tb.inputs o s e).1)
 
 -- a look through a setting that counts
 pub looked_through : (tb : Table) (o : Option Setting) (s : Setting) (row : ℕ) → Proper tb → in_force tb.inputs o ≡ Some s → row < 2 ^ (tb.inputs - 1)

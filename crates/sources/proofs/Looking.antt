@@ -7,7 +7,7 @@ use Rattle.terms.specs.declared.refusal.Refusal.TheVariants.{NoSuchRow}
 use Rattle.terms.specs.Tables.{Table, rows, mark_at}
 use Rattle.sources.specs.Rules.{judged}
 use Rattle.sources.specs.Sources.{looked}
-use Rattle.sources.specs.Judging.{look_passes}
+use Rattle.sources.proofs.Judging.{look_passes}
 
 -- a row that is there
 pub looked_in : (tb : Table) (row : ℕ) → row < rows tb → looked tb row ≡ Ok (mark_at tb row)

@@ -10,10 +10,7 @@ use Rattle.terms.specs.Tables.{Proper}
 use Rattle.terms.specs.declared.mark.Mark.TheVariants.{Off}
 use Rattle.sources.specs.Sources.{looked}
 use Rattle.sources.specs.TermLists.{bytes, some_holds, mark_by, listed, all_terms}
-use Rattle.sources.specs.Looking.{looked_in}
-
-pub listed_proper : (n : ℕ) (on free : List (ℕ × ℕ)) → 1 ≤ n → n ≤ 8 → Proper (listed n on free)
-listed_proper n on free a b = record { some = a; few = b; full = length-map-range_with_len (mark_by on free) 0 (2 ^ n) }
+use Rattle.sources.proofs.Looking.{looked_in}
 
 -- ---- whether some term holds a row
 pub holds_here : (ts : List Term) (i row : ℕ) (d : Term) → i < length ts
