@@ -1,17 +1,17 @@
 -- Sets of columns as rising lists: the earliest of the best covers is the best set.
-use Rattle.std.proofs.Common.{◌≡◌, ℕ, zero, suc, ◌+◌, ◌-◌, ◌<◌, ◌≤◌, Bool, true, false, cond, not, ◌&&◌, ◌||◌, eqb, ltb, ◌⊎◌, List, [], ◌∷◌, ◌++◌, map, length, filter, sym, refl, ap, ◌∙◌, subst, inl, inr, ⊎_elim, zero-add, add-one, arith, length-append}
+use Rattle.std.proofs.Common.{◌≡◌, ℕ, zero, suc, ◌+◌, ◌-◌, ◌<◌, ◌≤◌, Bool, true, false, cond, ◌&&◌, eqb, ltb, ◌⊎◌, List, [], ◌∷◌, ◌++◌, map, length, filter, sym, refl, ap, ◌∙◌, subst, inl, inr, ⊎_elim, zero-add, add-one, arith, length-append}
 use Rattle.std.specs.List.{range_with_len}
 use Rattle.std.proofs.lemmas.List.Elements.{filter-append}
 use Rattle.std.proofs.lemmas.List.{append-nil}
 use Rattle.std.proofs.lemmas.Bool.{cases_Bool, cases_eq, both_ways, and_right, le-ltb, lt-ltb, eqb-true, eq-eqb, false≢true}
 use Rattle.terms.specs.declared.term.Term.{Term}
-use Rattle.terms.specs.Lists.{In, Ordered}
+use Rattle.terms.specs.Lists.{In}
 use Rattle.terms.proofs.Members.{kept_in, in_kept}
 use Rattle.orders.specs.Orders.{Meaning, Laws, total}
 use Rattle.orders.proofs.Totalling.{any_order}
-use Rattle.charts.specs.Choice.{all_of, some_of, sublists, Rising, Part, Earlier, BestPart}
+use Rattle.charts.specs.Choice.{some_of, sublists, Rising, Part}
 use Rattle.charts.specs.Best.{Problem, columns, covering, total_of, beats, better, best_set, IsBest, BestSet}
-use Rattle.charts.specs.Sets.{members_below, down, cost, size, exceeds, Covers, Held, FirstBest}
+use Rattle.charts.specs.Sets.{members_below, down, cost, size, exceeds, Covers, FirstBest}
 use Rattle.charts.proofs.Values.{not_beats_trans, beats_asym, down_with, down_less}
 use Rattle.charts.proofs.Parts.{all_at, all_from, some_at, some_from, sub_cases, sub_in, kept_sub, part_from, in_sublists, only_best, first_best_lem}
 

@@ -1,7 +1,7 @@
 -- The values of sets of columns.
-use Rattle.std.proofs.Common.{◌≡◌, ℕ, zero, suc, ◌+◌, ◌<◌, ◌≤◌, Bool, true, false, cond, not, ◌&&◌, ◌||◌, eqb, ltb, ◌⊎◌, List, [], ◌∷◌, ◌++◌, map, length, sym, refl, ap, ◌∙◌, subst, inl, inr, ⊎_elim, arith}
+use Rattle.std.proofs.Common.{◌≡◌, ℕ, zero, suc, ◌+◌, ◌<◌, ◌≤◌, Bool, true, false, cond, not, ◌&&◌, ◌||◌, ltb, List, [], ◌∷◌, map, length, sym, refl, ap, ◌∙◌, subst, ⊎_elim, arith}
 use lib.ListN.{length-map}
-use Rattle.std.proofs.lemmas.Bool.{cases_Bool, cases_eq, lt-ltb, le-ltb, ltb-false, and_cases, or_parts, or_left, or_right, or_from, and_from, and_left, and_right, not-false, not_from_false, not_from_true, both_ways, not-true, ltb-true, and_parts, or_cases, eqb-true, eqb-false, eq-eqb, ne_eqb, false≢true, true≢false}
+use Rattle.std.proofs.lemmas.Bool.{cases_Bool, cases_eq, le-ltb, ltb-false, and_cases, or_parts, or_from, and_left, and_right, not-false, not_from_false, not_from_true, both_ways, not-true, ltb-true, and_parts, or_cases, eq-eqb, ne_eqb}
 use Rattle.terms.specs.declared.term.Term.{Term}
 use Rattle.orders.specs.Orders.{Meaning, Laws, total}
 use Rattle.orders.proofs.Totalling.{at_most_self, mono_left, total_one}

@@ -1,7 +1,7 @@
 -- Sets of columns as tests: what they hold and what they cost.
-use Rattle.std.specs.Prelude.{◌≡◌, ℕ, zero, suc, ◌<◌, ◌≤◌, Bool, true, false, cond, not, ◌&&◌, ◌||◌, List, [], ◌∷◌, map, length, filter, ◌==◌, slice_index_or}
+use Rattle.std.specs.Prelude.{◌≡◌, ℕ, zero, suc, ◌<◌, Bool, true, false, cond, not, ◌&&◌, ◌||◌, List, [], ◌∷◌, length, filter, ◌==◌, slice_index_or}
 use Rattle.std.specs.List.{range_with_len}
-use Rattle.orders.specs.Orders.{Meaning, total}
+use Rattle.orders.specs.Orders.{Meaning}
 use Rattle.charts.specs.Grids.{Grid}
 use Rattle.charts.specs.Best.{Problem, beats, total_of}
 use Rattle.charts.specs.declared.columns.ColumnSet.{ColumnSet}

@@ -25,6 +25,6 @@ pub trait Chart {
     fn price<O: CostOrder>(&self, order: &O, column: usize) -> O::Total
         ensures { O.CostOrder.exact order.now result ≡ (O.CostOrder.meaning order.now).price ((grid self.now).term column) };
 
-    // there are at most 256 columns and 1,280 needs
+    // a chart has at most 256 columns and 1,280 needs
     ghost small: { (c : Self) → Small (grid c) };
 }

@@ -1,10 +1,10 @@
 -- Nodes that hold no good set, and tests of values.
-use Rattle.std.proofs.Common.{◌≡◌, ℕ, ◌<◌, ◌≤◌, Bool, true, false, List, map, length, sym, ap, ◌∙◌}
+use Rattle.std.proofs.Common.{◌≡◌, ℕ, ◌<◌, ◌≤◌, Bool, true, false, List, map, length}
 use Rattle.std.proofs.lemmas.Bool.{both_ways}
 use Rattle.terms.specs.declared.term.Term.{Term}
 use Rattle.orders.specs.Orders.{Laws, total}
 use Rattle.charts.specs.Best.{Problem}
-use Rattle.charts.specs.Sets.{down, cost, size, fine, passes}
+use Rattle.charts.specs.Sets.{down, fine, passes}
 use Rattle.charts.proofs.Values.{part, fine_down, told, short}
 use Rattle.reductions.specs.Goals.{Good}
 use Rattle.covering.specs.Seeking.{Priced}

@@ -1,5 +1,5 @@
 -- What needs without a common column cost at least.
-use Rattle.std.proofs.Common.{◌≡◌, ℕ, zero, suc, ◌+◌, ◌<◌, ◌≤◌, Bool, true, false, cond, not, ◌&&◌, ◌||◌, eqb, ◌⊎◌, List, [], ◌∷◌, map, length, sym, refl, ap, ◌∙◌, subst, inl, inr, ⊎_elim, arith}
+use Rattle.std.proofs.Common.{◌≡◌, ℕ, ◌+◌, ◌<◌, ◌≤◌, Bool, true, false, eqb, ◌⊎◌, List, [], ◌∷◌, map, length, sym, ap, ◌∙◌, subst, inl, inr, ⊎_elim, arith}
 use lib.ListN.{length-map}
 use Rattle.std.proofs.lemmas.Bool.{cases_Bool, both_ways, eqb-true, or_cases, not-true, not_from_false}
 use Rattle.terms.specs.declared.term.Term.{Term}
@@ -9,7 +9,7 @@ use Rattle.charts.specs.Best.{Problem, beats}
 use Rattle.charts.specs.Sets.{down, cost, size, fine, passes, put}
 use Rattle.charts.proofs.Values.{not_beats, not_beats_trans, more, more_members, part, fine_down}
 use Rattle.reductions.specs.Goals.{Good}
-use Rattle.covering.specs.Floors.{Under, Floor, Apart, Cheapest}
+use Rattle.covering.specs.Floors.{Floor, Apart, Cheapest}
 use Rattle.covering.specs.Seeking.{Priced}
 
 -- what costs no more and has no more columns passes too

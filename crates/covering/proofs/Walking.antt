@@ -1,9 +1,9 @@
 -- Turns of a search along its trail.
-use Rattle.std.proofs.Common.{◌≡◌, ℕ, ◌<◌, ◌≤◌, Bool, true, false, cond, ◌⊎◌, List, [], ◌∷◌, length, sym, refl, ap, ◌∙◌, subst, inl, inr, ⊎_elim, arith}
+use Rattle.std.proofs.Common.{◌≡◌, ℕ, ◌<◌, ◌≤◌, Bool, true, false, cond, List, [], ◌∷◌, sym, refl, ap, ◌∙◌, subst, inl, ⊎_elim, arith}
 use Rattle.std.proofs.lemmas.Bool.{cases_Bool, both_ways, not-true, not_from_false}
 use Rattle.orders.specs.Orders.{Laws}
 use Rattle.charts.specs.Best.{Problem}
-use Rattle.charts.specs.Sets.{member, Covers, fine, exceeds, Least}
+use Rattle.charts.specs.Sets.{Covers, fine, exceeds, Least}
 use Rattle.charts.proofs.Values.{exceeds_weak, exceeds_asym, exceeds_same, part}
 use Rattle.reductions.specs.declared.node.Node.{Node}
 use Rattle.reductions.specs.declared.step.Step.{Step}

@@ -2,7 +2,6 @@
 use Rattle.std.specs.Prelude.{ℕ, ◌+◌, ◌*◌, min, Bool, false, ◌&&◌, List, nat_lt, slice_index_or}
 use Rattle.std.proofs.Common.{arith}
 use Rattle.std.proofs.Math.Nat.{min-le_right}
-use Rattle.terms.specs.declared.term.Term.{Term}
 use Rattle.primes.specs.Cubes.{term_of}
 use Rattle.charts.specs.Grids.{Grid, Small}
 use Rattle.covering_trials.specs.declared.sample.Sample.{Sample}

@@ -1,7 +1,7 @@
 -- Totals of few terms are small.
-use Rattle.std.proofs.Common.{◌≡◌, ℕ, zero, suc, ◌+◌, ◌*◌, ◌/◌, ◌^◌, ◌<◌, ◌≤◌, Bool, true, ◌&&◌, leb, List, [], ◌∷◌, length, get_or, drop, sym, refl, ap, ◌∙◌, one-mul, zero-mul, add-one, arith, drop_of_length-le, drop-cons}
+use Rattle.std.proofs.Common.{◌≡◌, ℕ, zero, suc, ◌+◌, ◌*◌, ◌/◌, ◌^◌, ◌<◌, ◌≤◌, true, ◌&&◌, leb, List, [], ◌∷◌, length, get_or, drop, sym, refl, ap, ◌∙◌, one-mul, zero-mul, add-one, arith, drop_of_length-le, drop-cons}
 use lib.Bits.{bit_and}
-use lib.Count.{ones, ones-le}
+use lib.Count.{ones-le}
 use Rattle.std.proofs.lemmas.Bool.{and_parts, leb-true}
 use Rattle.std.proofs.lemmas.Nat.{mul-le}
 use Rattle.terms.specs.declared.term.Term.{Term}
@@ -9,7 +9,7 @@ use Rattle.terms.specs.Terms.{bit, sum_below, contacts}
 use Rattle.terms.proofs.Bits.{bit_lt, shift_bit}
 use Rattle.terms.proofs.Bytes.{ones_byte}
 use Rattle.orders.specs.Orders.{total}
-use Rattle.orders.specs.Kinds.{by_count, by_price, by_longest, price_at, all_small}
+use Rattle.orders.specs.Kinds.{by_count, by_price, price_at, all_small}
 
 contacts_few : (t : Term) → contacts t ≤ 8
 contacts_few t = let e = ones_byte t.mask t.byte in let h = ones-le 8 t.mask t.byte in omega arith

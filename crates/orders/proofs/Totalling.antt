@@ -1,10 +1,9 @@
 -- Totals under every lawful cost order.
 use Rattle.std.proofs.Common.{◌≡◌, ℕ, suc, ◌<◌, true, ◌⊎◌, List, [], ◌∷◌, ◌++◌, length, get_or, drop, sym, refl, ap, ◌∙◌, subst, inl, inr, drop-cons}
 use Rattle.terms.specs.declared.term.Term.{Term}
-use Rattle.terms.specs.Lists.{In, Ordered}
-use Rattle.terms.specs.Terms.{Inside}
+use Rattle.terms.specs.Lists.{In}
 use Rattle.orders.specs.Orders.{Meaning, Laws, total}
-use Rattle.orders.specs.TotalLaws.{TotalInAnyOrder, MoreCostsMore, EachInside, WiderCostsLess}
+use Rattle.orders.specs.TotalLaws.{TotalInAnyOrder, MoreCostsMore, WiderCostsLess}
 
 module _ {A : Type 0} where
   -- a list without one of its elements

@@ -1,11 +1,11 @@
 -- The three orders keep the five laws.
-use Rattle.std.specs.Prelude.{◌≡◌, ℕ, suc, ◌+◌, ◌*◌, ◌<◌, ◌≤◌, max, Bool, true, false, ◌&&◌, ◌||◌, ◌⊎◌, List, ◌==◌, nat_le, nat_lt, slice_index, refl}
-use Rattle.std.proofs.Common.{sym, ap, ap₂, ◌∙◌, inl, inr, ⊎_elim, mul-le-mul_right, arith}
-use Rattle.std.proofs.lemmas.Bool.{le-leb, leb-true, cases_lt, cases_eq, lt-ltb, ltb-true, le-ltb, eq-eqb, eqb-true, ne_eqb, or_cases, or_left, or_right, and_parts, and_from}
+use Rattle.std.specs.Prelude.{◌≡◌, ℕ, suc, ◌+◌, ◌*◌, ◌<◌, ◌≤◌, max, true, ◌&&◌, ◌⊎◌, List, ◌==◌, nat_le, nat_lt, slice_index, refl}
+use Rattle.std.proofs.Common.{ap₂, inl, inr, ⊎_elim, mul-le-mul_right, arith}
+use Rattle.std.proofs.lemmas.Bool.{le-leb, leb-true, cases_lt, lt-ltb, ltb-true, eq-eqb, eqb-true, or_cases, or_left, or_right, and_parts, and_from}
 use Rattle.terms.specs.declared.term.Term.{Term}
-use Rattle.terms.specs.Terms.{bit, sum_below, contacts, Inside}
+use Rattle.terms.specs.Terms.{bit, contacts, Inside}
 use Rattle.terms.proofs.Widening.{inside_reads, sum_le, contacts_le}
-use Rattle.orders.specs.Orders.{Meaning, Laws}
+use Rattle.orders.specs.Orders.{Laws}
 use Rattle.orders.specs.Kinds.{pair_at_most, by_count, price_at, by_price, by_longest}
 
 number_connected : (a b : ℕ) → (nat_le a b ≡ true) ⊎ (nat_le b a ≡ true)

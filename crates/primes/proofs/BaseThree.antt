@@ -1,5 +1,5 @@
 -- The digits of a number in base three, one by one.
-use Rattle.std.proofs.Common.{◌≡◌, ℕ, zero, suc, ◌+◌, ◌-◌, ◌*◌, ◌/◌, ◌%◌, ◌^◌, ◌<◌, ◌≤◌, Bool, true, false, ◌&&◌, ◌≢◌, ◌⊎◌, List, [], ◌∷◌, length, get_or, set, sym, refl, ap, ◌∙◌, subst, ap₂, inl, inr, ⊎_elim, le_of_suc-le-suc, not-suc-le-zero, add_comm, pow-suc, zero-add, zero-mul, arith, length-set, pow_mono}
+use Rattle.std.proofs.Common.{◌≡◌, ℕ, zero, suc, ◌+◌, ◌-◌, ◌*◌, ◌/◌, ◌%◌, ◌^◌, ◌<◌, ◌≤◌, Bool, ◌&&◌, List, [], ◌∷◌, length, get_or, set, sym, refl, ap, ◌∙◌, subst, ap₂, le_of_suc-le-suc, not-suc-le-zero, add_comm, pow-suc, zero-add, zero-mul, arith, length-set, pow_mono}
 use native.Mathlib.Nat.{div-div-eq-div-mul, pow-succ'}
 use Rattle.primes.specs.Cubes.{Digit, free, low, high, dig, cube_of, read_bit, level_bit, mask_in, levels_in}
 use Rattle.primes.proofs.Cube.{val, num, imp}
@@ -48,11 +48,11 @@ levels_down n i x h k =
 pub levels_small : (n x : ℕ) → n ≤ 8 → levels_in (cube_of n x) < 256
 levels_small n x h = omega (arith, levels_lt n x, pow_mono {i = n} {j = 8} h)
 
-pub get_d_cube_of : (n i x : ℕ) → i < n → get_or (cube_of n x) i free ≡ dig (x / 3 ^ i % 3)
-get_d_cube_of zero i x h = absurd (not-suc-le-zero h)
-get_d_cube_of (suc n) zero x h = let e : x / 1 ≡ x = omega arith in ap (λ (y : ℕ). dig (y % 3)) (sym e)
-get_d_cube_of (suc n) (suc i) x h =
-    get_d_cube_of n i (x / 3) (le_of_suc-le-suc h)
+pub get_or_cube_of : (n i x : ℕ) → i < n → get_or (cube_of n x) i free ≡ dig (x / 3 ^ i % 3)
+get_or_cube_of zero i x h = absurd (not-suc-le-zero h)
+get_or_cube_of (suc n) zero x h = let e : x / 1 ≡ x = omega arith in ap (λ (y : ℕ). dig (y % 3)) (sym e)
+get_or_cube_of (suc n) (suc i) x h =
+    get_or_cube_of n i (x / 3) (le_of_suc-le-suc h)
     ∙ ap (λ (y : ℕ). dig (y % 3)) (div-div-eq-div-mul x 3 (3 ^ i) ∙ ap (λ (y : ℕ). x / y) (sym (pow-succ' 3 i)))
 
 -- the number of the term with digit e at i
@@ -63,7 +63,7 @@ cube_of_set n i x y e h k q =
     let len : length ds ≡ n = length_cube_of n x in
     let a : num (set ds i e) + val (get_or ds i free) * 3 ^ i ≡ num ds + val e * 3 ^ i = num_set ds i e (omega arith) in
     let b : num ds ≡ x = num_cube_of n x k in
-    let g : val (get_or ds i free) * 3 ^ i ≡ val (dig (x / 3 ^ i % 3)) * 3 ^ i = ap (λ (d : Digit). val d * 3 ^ i) (get_d_cube_of n i x h) in
+    let g : val (get_or ds i free) * 3 ^ i ≡ val (dig (x / 3 ^ i % 3)) * 3 ^ i = ap (λ (d : Digit). val d * 3 ^ i) (get_or_cube_of n i x h) in
     let m : num (set ds i e) ≡ y = omega arith in
     let z : length (set ds i e) ≡ n = length-set ds i e ∙ len in
     (ap₂ cube_of (sym z) (sym m) ∙ cube_of_num (set ds i e), subst (λ (j : ℕ). j < 3 ^ n) m (subst (λ (j : ℕ). num (set ds i e) < 3 ^ j) z (num_lt (set ds i e))))
@@ -77,11 +77,11 @@ split_at n i x f h k z =
     let a = cube_of_set n i x (x + 3 ^ i) low h k (omega arith) in
     let b = cube_of_set n i x (x + 2 * 3 ^ i) high h k (omega arith) in (
       b.1,
-      imp_split (cube_of n x) i f (subst (λ (j : ℕ). i < j) (sym (length_cube_of n x)) h) (get_d_cube_of n i x h ∙ ap dig z)
+      imp_split (cube_of n x) i f (subst (λ (j : ℕ). i < j) (sym (length_cube_of n x)) h) (get_or_cube_of n i x h ∙ ap dig z)
           ∙ ap₂ (λ (s t : List Digit). imp s f && imp t f) (sym a.0) (sym b.0),
     )
 
--- a term that readBit all inputs holds one row
+-- a term that reads all inputs holds one row
 pub imp_full : (ds : List Digit) (f : ℕ → Bool) → ((i : ℕ) → i < length ds → get_or ds i free ≡ free → ⊥) → imp ds f ≡ f (levels_in ds)
 imp_full [] f h = refl
 imp_full (free ∷ ds) f h = absurd (h 0 (omega arith) refl)
@@ -97,7 +97,7 @@ dig_free (suc (suc d)) e = cc
 
 pub full_at : (n x : ℕ) (f : ℕ → Bool) → ((k : ℕ) → k < n → x / 3 ^ k % 3 ≡ 0 → ⊥) → imp (cube_of n x) f ≡ f (levels_in (cube_of n x))
 full_at n x f h =
-    imp_full (cube_of n x) f (λ i k e. let m : i < n = omega (arith, length_cube_of n x) in h i m (dig_free (x / 3 ^ i % 3) (sym (get_d_cube_of n i x m) ∙ e)))
+    imp_full (cube_of n x) f (λ i k e. let m : i < n = omega (arith, length_cube_of n x) in h i m (dig_free (x / 3 ^ i % 3) (sym (get_or_cube_of n i x m) ∙ e)))
 
 -- ---- the same for the inputs that are read
 pub reads_half : (d : ℕ) → d < 3 → read_bit (dig d) ≡ (d + 1) / 2

@@ -1,11 +1,11 @@
 -- Terms as two bytes, and as lists of digits.
-use Rattle.std.proofs.Common.{◌≡◌, ℕ, zero, suc, ◌+◌, ◌-◌, ◌*◌, ◌/◌, ◌%◌, ◌^◌, ◌<◌, ◌≤◌, min, Bool, true, false, ◌&&◌, T, eqb, leb, ◌≢◌, ◌⊎◌, List, [], ◌∷◌, length, get_or, set, sym, refl, ap, ◌∙◌, subst, ap₂, inl, inr, ⊎_elim, le_of_suc-le-suc, not-suc-le-zero, pow-suc, arith, eqb→eq, leb→le, length-set}
+use Rattle.std.proofs.Common.{◌≡◌, ℕ, zero, suc, ◌+◌, ◌*◌, ◌/◌, ◌%◌, ◌^◌, ◌<◌, ◌≤◌, min, Bool, ◌&&◌, eqb, List, [], ◌∷◌, sym, refl, ap, ◌∙◌, ap₂, ⊎_elim, le_of_suc-le-suc, pow-suc, arith}
 use lib.Bits.{bit_and, and_step, and_zero_r}
-use Rattle.std.proofs.lemmas.Bool.{and_parts, and_from, cases_eq, eq-eqb, ne_eqb}
+use Rattle.std.proofs.lemmas.Bool.{cases_eq, eq-eqb, ne_eqb}
 use Rattle.terms.specs.Terms.{weight}
 use Rattle.terms.proofs.Numbers.{horner, weight_horner, within_half, within_first}
 use Rattle.primes.specs.Cubes.{Digit, free, low, high, dig, cube_of, read_bit, level_bit, mask_in, levels_in}
-use Rattle.primes.proofs.Cube.{fits, contains, imp, Sparing, num}
+use Rattle.primes.proofs.Cube.{fits, contains}
 
 -- ---- the digits of a term
 abbrev pub digit : ℕ → ℕ → Digit

@@ -1,5 +1,5 @@
 -- Terms as cubes: the rows that they hold, the inputs that they lose, their numbers.
-use Rattle.std.proofs.Common.{◌≡◌, ℕ, zero, suc, ◌+◌, ◌-◌, ◌*◌, ◌/◌, ◌%◌, ◌^◌, ◌<◌, ◌≤◌, min, Bool, true, false, not, ◌&&◌, ◌||◌, eqb, List, [], ◌∷◌, length, get_or, set, sym, refl, ap, ◌∙◌, subst, ap₂, ⊎_elim, le_trans, le_of_suc-le-suc, not-suc-le-zero, mul-le-mul_right, mul_assoc, mul_comm, pow-suc, div-mul-le_self, arith, pow_mono}
+use Rattle.std.proofs.Common.{◌≡◌, ℕ, zero, suc, ◌+◌, ◌*◌, ◌/◌, ◌%◌, ◌^◌, ◌<◌, ◌≤◌, Bool, true, false, not, ◌&&◌, ◌||◌, eqb, List, ◌∷◌, length, get_or, set, sym, refl, ap, ◌∙◌, subst, ap₂, ⊎_elim, le_trans, le_of_suc-le-suc, not-suc-le-zero, mul-le-mul_right, mul_assoc, mul_comm, pow-suc, div-mul-le_self, arith}
 use native.Mathlib.Nat.{mod-le}
 use lib.Bits.{bit_and, and_step}
 use Rattle.std.proofs.lemmas.Bool.{and_parts, and_from, cases_eq, both_ways}
@@ -10,7 +10,7 @@ use Rattle.terms.proofs.Bits.{bit_half, bit_lt, levels_le}
 use Rattle.terms.proofs.Numbers.{horner, weight_horner, same_term, levels_byte, within_half, within_first}
 use Rattle.primes.specs.Cubes.{Digit, free, low, high, dig, cube_of, read_bit, level_bit, mask_in, levels_in, term_of}
 use Rattle.primes.specs.Primes.{every, allowed, spares_off, cleared, can_drop, is_prime, implicant_at}
-use Rattle.primes.proofs.Cube.{contains, imp, val, num, is_free, stands, trial}
+use Rattle.primes.proofs.Cube.{imp, val, num, is_free, stands, trial}
 use Rattle.primes.proofs.CubeLaws.{implicant_from_imp, imp_from_implicant, num_cube_of}
 use Rattle.primes.proofs.CubeBytes.{digit, cube, cube_of_number, mask_cube, levels_cube, contains_cube}
 
@@ -111,13 +111,13 @@ cube_cleared (suc n) m l (suc i) h =
     let b = cleared_next l i in
     ap₂ (λ (x : Digit) (xs : List Digit). x ∷ xs) (ap₂ digit a.1 b.1) (ap₂ (cube n) a.0 b.0 ∙ cube_cleared n (m / 2) (l / 2) i (le_of_suc-le-suc h))
 
-get_d_cube : (n i m l : ℕ) → i < n → get_or (cube n m l) i free ≡ digit (bit m i) (bit l i)
-get_d_cube zero i m l h = absurd (not-suc-le-zero h)
-get_d_cube (suc n) zero m l h =
+get_or_cube : (n i m l : ℕ) → i < n → get_or (cube n m l) i free ≡ digit (bit m i) (bit l i)
+get_or_cube zero i m l h = absurd (not-suc-le-zero h)
+get_or_cube (suc n) zero m l h =
     let p : m / 1 ≡ m = omega arith in
     let q : l / 1 ≡ l = omega arith in
     ap₂ (λ (x y : ℕ). digit (x % 2) (y % 2)) (sym p) (sym q)
-get_d_cube (suc n) (suc i) m l h = get_d_cube n i (m / 2) (l / 2) (le_of_suc-le-suc h) ∙ ap₂ digit (bit_half m i) (bit_half l i)
+get_or_cube (suc n) (suc i) m l h = get_or_cube n i (m / 2) (l / 2) (le_of_suc-le-suc h) ∙ ap₂ digit (bit_half m i) (bit_half l i)
 
 free_digit : (b c : ℕ) → b < 2 → is_free (digit b c) ≡ not (eqb b 1)
 free_digit zero c h = refl
@@ -142,7 +142,7 @@ drop_stands tb t i h k =
     let c = cleared_le m i in
     not_and (reads t i) (spares_off tb (cleared m i) (cleared l i))
     ∙ ap₂ (λ (x y : Bool). x || not y)
-    (sym (free_digit (bit m i) (bit l i) (bit_lt m i)) ∙ sym (ap is_free (get_d_cube n i m l k)))
+    (sym (free_digit (bit m i) (bit l i) (bit_lt m i)) ∙ sym (ap is_free (get_or_cube n i m l k)))
     (spares_cube tb (cleared m i) (cleared l i) (omega arith) (cleared_within m l i t.within)
     ∙ ap (λ (ds : List Digit). imp ds (allowed tb)) (cube_cleared n m l i k))
 

@@ -1,27 +1,27 @@
 -- Which primes are essential, need by need.
-use Rattle.std.proofs.Common.{◌≡◌, ℕ, zero, suc, ◌+◌, ◌<◌, ◌≤◌, Bool, true, false, cond, not, ◌&&◌, ◌||◌, eqb, ◌⊎◌, List, [], ◌∷◌, ◌++◌, map, length, get_or, take, set, filter, sym, refl, ap, ◌∙◌, subst, ap₂, inl, inr, le_of_suc-le-suc, not-suc-le-zero, add-zero, arith, length-set, take_all, get_or-set_other, take-suc, get_or-set_same, ext_get_or}
+use Rattle.std.proofs.Common.{◌≡◌, ℕ, zero, suc, ◌+◌, ◌<◌, ◌≤◌, Bool, true, false, cond, ◌&&◌, ◌||◌, eqb, List, [], ◌∷◌, ◌++◌, map, length, get_or, take, set, filter, sym, refl, ap, ◌∙◌, subst, ap₂, inl, inr, le_of_suc-le-suc, not-suc-le-zero, arith, length-set, take_all, get_or-set_other, take-suc, get_or-set_same, ext_get_or}
 use lib.ListN.{length-map}
-use Rattle.std.proofs.lemmas.Bool.{cases_eq, cases_Bool, eq-eqb, ne_eqb, and_left, and_right, and_from, both_ways}
+use Rattle.std.proofs.lemmas.Bool.{cases_eq, cases_Bool, eq-eqb, ne_eqb, and_left, and_right, and_from}
 use Rattle.terms.specs.declared.term.Term.{Term}
 use Rattle.terms.specs.Lists.{padded}
 use Rattle.terms.specs.Terms.{number}
-use Rattle.terms.proofs.Padding.{take_padded, get_d_padded, set_padded}
+use Rattle.terms.proofs.Padding.{take_padded, get_or_padded, set_padded}
 use Rattle.primes.specs.declared.need.Need.{Need}
 use Rattle.primes.specs.declared.prime.Prime.{Prime}
 use Rattle.primes.specs.declared.prime.PrimeList.{PrimeList}
 use Rattle.primes.specs.Needs.{meets}
-use Rattle.primes.specs.Records.{held, holders, is_essential, fresh, record_of, no_prime, records_in, record_meets}
+use Rattle.primes.specs.Records.{held, holders, is_essential, record_of, no_prime, records_in, record_meets}
 
 -- ---- lists
-pub get_d_any : {A : Type 0} (xs : List A) (i : ℕ) (d e : A) → i < length xs → get_or xs i d ≡ get_or xs i e
-get_d_any [] i d e h = absurd (not-suc-le-zero h)
-get_d_any (x ∷ xs) zero d e h = refl
-get_d_any (x ∷ xs) (suc i) d e h = get_d_any xs i d e (le_of_suc-le-suc h)
+pub get_or_any : {A : Type 0} (xs : List A) (i : ℕ) (d e : A) → i < length xs → get_or xs i d ≡ get_or xs i e
+get_or_any [] i d e h = absurd (not-suc-le-zero h)
+get_or_any (x ∷ xs) zero d e h = refl
+get_or_any (x ∷ xs) (suc i) d e h = get_or_any xs i d e (le_of_suc-le-suc h)
 
-pub get_d_map_at : {A B : Type 0} (f : A → B) (xs : List A) (i : ℕ) (d : A) (e : B) → i < length xs → get_or (map f xs) i e ≡ f (get_or xs i d)
-get_d_map_at f [] i d e h = absurd (not-suc-le-zero h)
-get_d_map_at f (x ∷ xs) zero d e h = refl
-get_d_map_at f (x ∷ xs) (suc i) d e h = get_d_map_at f xs i d e (le_of_suc-le-suc h)
+pub get_or_map_at : {A B : Type 0} (f : A → B) (xs : List A) (i : ℕ) (d : A) (e : B) → i < length xs → get_or (map f xs) i e ≡ f (get_or xs i d)
+get_or_map_at f [] i d e h = absurd (not-suc-le-zero h)
+get_or_map_at f (x ∷ xs) zero d e h = refl
+get_or_map_at f (x ∷ xs) (suc i) d e h = get_or_map_at f xs i d e (le_of_suc-le-suc h)
 
 pub length_kept_map : {A B : Type 0} (q : B → Bool) (f : A → B) (xs : List A) → length (filter q (map f xs)) ≡ length (filter (λ x. q (f x)) xs)
 length_kept_map q f [] = refl
@@ -133,16 +133,16 @@ module _ (ps : List Term) (ds : List Need) (k : ℕ) (d₀ : Need) (h : k < leng
             ∙ ap (λ (x : Bool). record { term = t; number = number t; needs = held ds t; essential = x })
             (sym (essential_next t ∙ ap (λ (x : Bool). is_essential ps (take k ds) t || x) (and_from (meets t need) (eqb (holders ps need) 1) m (eq-eqb (holders ps need) 1 one))
             ∙ or_true (is_essential ps (take k ds) t)))
-            ∙ sym (get_d_map_at g ps at t₀ no_prime a)
+            ∙ sym (get_or_map_at g ps at t₀ no_prime a)
             ∙ ap (λ (x : ℕ). get_or (map g ps) x no_prime) (sym e)
         | inr n ↦
             let t : Term = get_or ps j t₀ in
             let miss : meets t need ≡ false =
             elim (cases_Bool (meets t need)) [ inl y ↦ absurd (n (only_one (λ p. meets p need) ps j at t₀ one b a y m)) | inr y ↦ y ] in
             get_or-set_other (map f ps) at j r no_prime n
-            ∙ get_d_map_at f ps j t₀ no_prime b
+            ∙ get_or_map_at f ps j t₀ no_prime b
             ∙ same_essential t (and_left (meets t need) (eqb (holders ps need) 1) miss)
-            ∙ sym (get_d_map_at g ps j t₀ no_prime b)
+            ∙ sym (get_or_map_at g ps j t₀ no_prime b)
       ])
 
 -- ---- the list, need by need
@@ -176,7 +176,7 @@ module _ (ps : List Term) (ds : List Need) (k : ℕ) (d₀ : Need) (h : k < leng
       let lg : length (map g ps) ≡ length ps = length-map ps g in
       let bm : at < length (map g ps) = subst (λ (x : ℕ). at < x) (sym lg) b in
       let here : get_or l.primes at no_prime ≡ g (get_or ps at t₀) =
-      ap (λ (xs : List Prime). get_or xs at no_prime) inv.1 ∙ get_d_padded 256 no_prime (map g ps) at no_prime bm ∙ get_d_map_at g ps at t₀ no_prime b in
+      ap (λ (xs : List Prime). get_or xs at no_prime) inv.1 ∙ get_or_padded 256 no_prime (map g ps) at no_prime bm ∙ get_or_map_at g ps at t₀ no_prime b in
       let r' : r ≡ record { term = get_or ps at t₀; number = number (get_or ps at t₀); needs = held ds (get_or ps at t₀); essential = true } =
       q ∙ ap (λ (x : Prime). record { term = x.term; number = x.number; needs = x.needs; essential = true }) here in (
         c ∙ inv.0,

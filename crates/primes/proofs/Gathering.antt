@@ -1,5 +1,5 @@
 -- The list of primes as far as the terms have been tried.
-use Rattle.std.proofs.Common.{◌≡◌, ℕ, suc, ◌+◌, ◌-◌, ◌*◌, ◌/◌, ◌%◌, ◌^◌, ◌<◌, ◌≤◌, Bool, true, false, cond, not, List, [], ◌∷◌, ◌++◌, map, length, get_or, take, drop, set, replicate, Some, None, filter, sym, refl, ap, ◌∙◌, subst, ap₂, append-nil, arith, length-append}
+use Rattle.std.proofs.Common.{◌≡◌, ℕ, ◌+◌, ◌^◌, ◌<◌, ◌≤◌, Bool, true, false, cond, List, [], ◌∷◌, ◌++◌, map, length, get_or, take, drop, set, replicate, Some, None, filter, sym, refl, ap, ◌∙◌, subst, ap₂, append-nil, arith, length-append}
 use mathlib.Core.List.{map-append}
 use lib.ListN.{length-map}
 use Rattle.std.specs.List.{range_with_len}
@@ -10,16 +10,15 @@ use Rattle.std.proofs.lemmas.Bool.{lt-ltb, le-ltb}
 use Rattle.terms.specs.declared.refusal.Refusal.TheVariants.{TooManyPrimes}
 use Rattle.terms.specs.declared.term.Term.{Term}
 use Rattle.terms.specs.Lists.{padded}
-use Rattle.terms.specs.Terms.{number}
 use Rattle.terms.specs.Tables.{Table}
 use Rattle.terms.proofs.Padding.{padded_none, padded_push, take_padded}
 use Rattle.primes.specs.declared.need.Need.{Need}
 use Rattle.primes.specs.declared.prime.Prime.{Prime}
 use Rattle.primes.specs.declared.prime.PrimeList.{PrimeList}
 use Rattle.primes.specs.Cubes.{term_of, cube_of}
-use Rattle.primes.specs.Primes.{every, allowed, implicant_at, is_prime, primes, terms_over}
+use Rattle.primes.specs.Primes.{allowed, implicant_at, is_prime, primes, terms_over}
 use Rattle.primes.specs.Records.{held, fresh, no_prime, terms_in, primes_break}
-use Rattle.primes.proofs.Cube.{imp, stands, trial}
+use Rattle.primes.proofs.Cube.{imp, trial}
 use Rattle.primes.proofs.CubeTerms.{prime_at_lem, number_term_of, pow3_le, implicant_at_lem}
 use Rattle.primes.proofs.Trials.{Right}
 

@@ -1,5 +1,5 @@
 -- A term passes the trial iff it lies inside no other implicant.
-use Rattle.std.proofs.Common.{◌≡◌, ℕ, zero, suc, ◌+◌, ◌-◌, ◌*◌, ◌/◌, ◌%◌, ◌^◌, ◌<◌, ◌≤◌, Bool, true, false, ◌&&◌, ◌≢◌, ◌⊎◌, List, [], ◌∷◌, length, get_or, set, sym, refl, ap, ◌∙◌, subst, ap₂, inl, inr, ⊎_elim, true≢false, le_of_suc-le-suc, not-suc-le-zero, pow-suc, arith, length-set}
+use Rattle.std.proofs.Common.{◌≡◌, ℕ, zero, suc, ◌+◌, ◌*◌, ◌/◌, ◌%◌, ◌^◌, ◌<◌, Bool, true, ◌≢◌, ◌⊎◌, List, [], ◌∷◌, length, get_or, set, sym, refl, ap, ◌∙◌, subst, ap₂, inl, inr, ⊎_elim, le_of_suc-le-suc, not-suc-le-zero, arith, length-set}
 use mathlib.Core.Bool.{false≢true}
 use Rattle.std.proofs.lemmas.Bool.{and_parts, and_from, both_ways, cases_Bool}
 use Rattle.primes.specs.Cubes.{Digit, free, low, high}
@@ -140,16 +140,16 @@ alone_from_passes t f p u e h s =
     (imp_from_implicant (set t d.0 free) f (wider_imp u (set t d.0 free) f d.3 h))))
     (wider_cases u t (wider_from_inside t u e s))
 
-get_d_set_free : (ts : List Digit) (i : ℕ) → get_or (set ts i free) i free ≡ free
-get_d_set_free [] i = refl
-get_d_set_free (t ∷ ts) zero = refl
-get_d_set_free (t ∷ ts) (suc i) = get_d_set_free ts i
+get_or_set_free : (ts : List Digit) (i : ℕ) → get_or (set ts i free) i free ≡ free
+get_or_set_free [] i = refl
+get_or_set_free (t ∷ ts) zero = refl
+get_or_set_free (t ∷ ts) (suc i) = get_or_set_free ts i
 
 pub passes_from_alone : (t : List Digit) (f : ℕ → Bool) → Alone t f → Passes t f
 passes_from_alone t f a i h n =
     ⊎_elim
     (λ e. absurd (n (subst (λ (x : List Digit). get_or x i free ≡ free)
     (a (set t i free) (length-set t i free) (implicant_from_imp (set t i free) f e) (λ r b c. wider_contains (set t i free) t r (wider_set t i h) c))
-    (get_d_set_free t i))))
+    (get_or_set_free t i))))
     (λ e. e)
     (cases_Bool (imp (set t i free) f))

@@ -1,8 +1,8 @@
 -- The list of primes holds the primes and nothing else, in rising rank.
-use Rattle.std.proofs.Common.{◌≡◌, ℕ, zero, suc, ◌+◌, ◌*◌, ◌/◌, ◌%◌, ◌^◌, ◌<◌, ◌≤◌, Bool, true, false, cond, not, ◌&&◌, ◌||◌, T, eqb, ◌≢◌, ◌⊎◌, List, [], ◌∷◌, map, length, get_or, set, sym, refl, ap, ◌∙◌, subst, ap₂, inl, inr, ⊎_elim, mod-eq_of_lt, pow-suc, arith, pow_pos}
+use Rattle.std.proofs.Common.{◌≡◌, ℕ, ◌+◌, ◌*◌, ◌/◌, ◌%◌, ◌^◌, ◌<◌, ◌≤◌, Bool, true, false, not, ◌||◌, T, eqb, ◌≢◌, List, [], ◌∷◌, length, get_or, set, sym, refl, ap, ◌∙◌, subst, ap₂, mod-eq_of_lt, pow-suc, arith, pow_pos}
 use lib.Bits.{bit_and, and_le_r, and_mod}
 use Rattle.std.proofs.lemmas.Nat.{mod_below}
-use Rattle.std.proofs.lemmas.Bool.{and_parts, and_from, not-true, cases_Bool, both_ways}
+use Rattle.std.proofs.lemmas.Bool.{and_parts, and_from, not-true, both_ways}
 use Rattle.terms.specs.declared.term.Term.{Term}
 use Rattle.terms.specs.Lists.{In}
 use Rattle.terms.specs.Marks.{is_off}
@@ -12,7 +12,7 @@ use Rattle.terms.proofs.Bits.{levels_le}
 use Rattle.terms.proofs.Members.{kept_in, in_kept, ordered_kept, counted_in, in_counted, ordered_counted}
 use Rattle.terms.proofs.Numbers.{same_term}
 use Rattle.primes.specs.Cubes.{Digit, free, low, high, cube_of, read_bit, level_bit, mask_in, levels_in, levels_in_mask, term_of}
-use Rattle.primes.specs.Primes.{every, allowed, spares_off, is_prime, primes, terms_over}
+use Rattle.primes.specs.Primes.{every, allowed, is_prime, primes, terms_over}
 use Rattle.primes.specs.PrimeLaws.{PrimesListed, PrimesRising}
 use Rattle.primes.proofs.Cube.{contains, imp, num, Sparing, Within, Alone, is_free, stands, trial}
 use Rattle.primes.proofs.CubeLaws.{implicant_from_imp, imp_from_implicant, length_cube_of, num_lt}

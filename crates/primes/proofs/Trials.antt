@@ -1,17 +1,13 @@
 -- The trial, step by step.
-use Rattle.std.proofs.Common.{◌≡◌, ℕ, zero, suc, ◌+◌, ◌-◌, ◌*◌, ◌/◌, ◌%◌, ◌^◌, ◌<◌, ◌≤◌, Bool, true, false, cond, not, ◌&&◌, ◌||◌, ◌≢◌, ◌⊎◌, List, [], ◌∷◌, ◌++◌, map, length, get_or, take, drop, set, filter, sym, refl, ap, ◌∙◌, subst, ap₂, inl, inr, ⊎_elim, append-nil, le_trans, not-suc-le-zero, mul-le-mul_right, pow-suc, zero-mul, div-mul-le_self, add-one, arith, length-append, length-set}
+use Rattle.std.proofs.Common.{◌≡◌, ℕ, zero, suc, ◌+◌, ◌-◌, ◌*◌, ◌/◌, ◌%◌, ◌^◌, ◌<◌, ◌≤◌, Bool, true, false, not, ◌||◌, List, get_or, set, sym, refl, ap, ◌∙◌, subst, ap₂, ⊎_elim, le_trans, mul-le-mul_right, div-mul-le_self, add-one, arith}
 use native.Mathlib.Nat.{mod-le}
-use Rattle.std.specs.List.{range_with_len}
-use Rattle.std.proofs.lemmas.List.FromFn.{filter_of_map_range_with_len_more, take-map-range_with_len}
-use Rattle.std.proofs.lemmas.List.Elements.{filter-append}
-use Rattle.std.proofs.lemmas.List.{take-append-drop, take_more_set, length-take}
-use Rattle.std.proofs.lemmas.Bool.{and_parts, and_from, and_left, and_right, cases_Bool, cases_eq, both_ways}
-use Rattle.primes.specs.Cubes.{Digit, free, low, high, dig, cube_of, read_bit, level_bit, mask_in, levels_in}
-use Rattle.primes.proofs.Cube.{val, num, imp}
+use Rattle.std.proofs.lemmas.Bool.{and_from, and_left, and_right, cases_Bool, both_ways}
+use Rattle.primes.specs.Cubes.{Digit, free, dig, cube_of}
+use Rattle.primes.proofs.Cube.{val, imp}
 use Rattle.primes.specs.Primes.{every}
 use Rattle.primes.proofs.Cube.{is_free, stands, trial}
-use Rattle.primes.proofs.CubeLaws.{num_cube_of, val_dig}
-use Rattle.primes.proofs.BaseThree.{get_d_cube_of, cube_of_set, masks_small, levels_small}
+use Rattle.primes.proofs.CubeLaws.{val_dig}
+use Rattle.primes.proofs.BaseThree.{get_or_cube_of, cube_of_set}
 use Rattle.primes.proofs.CubeTerms.{every_at}
 
 -- ---- the trial
@@ -36,7 +32,7 @@ free_dig (suc (suc d)) h = refl
 
 pub stands_unread : (n i x : ℕ) (f : ℕ → Bool) → i < n → x / 3 ^ i % 3 ≡ 0 → stands f (cube_of n x) i ≡ true
 stands_unread n i x f h e =
-    ap (λ (d : Digit). is_free d || not (imp (set (cube_of n x) i free) f)) (get_d_cube_of n i x h ∙ ap dig e)
+    ap (λ (d : Digit). is_free d || not (imp (set (cube_of n x) i free) f)) (get_or_cube_of n i x h ∙ ap dig e)
 
 pub place_le : (x p : ℕ) → x / p % 3 * p ≤ x
 place_le x p = le_trans (mul-le-mul_right p (mod-le (x / p) 3)) (div-mul-le_self x p)
@@ -48,7 +44,7 @@ stands_read n i x f h k z =
     let v : val (dig d) * 3 ^ i ≡ d * 3 ^ i = ap (λ (j : ℕ). j * 3 ^ i) (val_dig d (omega arith)) in
     let l : d * 3 ^ i ≤ x = place_le x (3 ^ i) in
     let s = cube_of_set n i x (x - d * 3 ^ i) free h k (omega arith) in
-    ap₂ (λ (b : Bool) (ds : List Digit). b || not (imp ds f)) (ap is_free (get_d_cube_of n i x h) ∙ free_dig d z) (sym s.0)
+    ap₂ (λ (b : Bool) (ds : List Digit). b || not (imp ds f)) (ap is_free (get_or_cube_of n i x h) ∙ free_dig d z) (sym s.0)
 
 pub every_more : (f : ℕ → Bool) (i : ℕ) → every f i ≡ true → f i ≡ true → every f (i + 1) ≡ true
 every_more f i e h = ap (every f) (add-one i) ∙ and_from (f i) (every f i) h e

@@ -1,5 +1,5 @@
 -- Each implicant lies inside a prime, and each need is met by one.
-use Rattle.std.proofs.Common.{◌≡◌, ℕ, zero, suc, ◌+◌, ◌*◌, ◌/◌, ◌%◌, ◌^◌, ◌<◌, ◌≤◌, Bool, true, false, not, ◌&&◌, ◌||◌, T, eqb, ◌≢◌, ◌⊎◌, List, [], ◌∷◌, length, get_or, set, sym, refl, ap, ◌∙◌, subst, inl, inr, ⊎_elim, le_of_suc-le-suc, not-suc-le-zero, pow-suc, arith, length-set}
+use Rattle.std.proofs.Common.{◌≡◌, ℕ, zero, suc, ◌+◌, ◌/◌, ◌%◌, ◌^◌, ◌<◌, ◌≤◌, Bool, true, false, not, ◌&&◌, ◌||◌, ◌≢◌, ◌⊎◌, List, [], ◌∷◌, length, get_or, set, sym, refl, ap, ◌∙◌, subst, inl, inr, ⊎_elim, le_of_suc-le-suc, not-suc-le-zero, pow-suc, arith, length-set}
 use Rattle.std.proofs.lemmas.Bool.{cases_Bool, and_parts, and_from, eqb-true, eq-eqb, or_parts, not-false, both_ways}
 use Rattle.terms.specs.declared.term.Term.{Term}
 use Rattle.terms.specs.Terms.{bit, holds, Inside}
@@ -8,7 +8,7 @@ use Rattle.terms.proofs.Bits.{bit_half}
 use Rattle.primes.specs.Cubes.{Digit, free, low, high}
 use Rattle.primes.specs.Primes.{every, allowed}
 use Rattle.primes.proofs.Cube.{fits, contains, imp, Sparing, Within, Alone, Passes, is_free, stands}
-use Rattle.primes.proofs.CubeLaws.{implicant_from_imp, imp_from_implicant}
+use Rattle.primes.proofs.CubeLaws.{implicant_from_imp}
 use Rattle.primes.proofs.CubeBytes.{cube, contains_cube}
 use Rattle.primes.proofs.CubeTerms.{every_at, length_cube}
 use Rattle.primes.proofs.Insides.{wider_contains, wider_set, alone_from_passes}

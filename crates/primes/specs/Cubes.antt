@@ -1,5 +1,5 @@
 -- A term as the list of what it asks of each input, input 0 first; and the term of a number.
-use Rattle.std.specs.Prelude.{◌≡◌, ℕ, zero, suc, ◌+◌, ◌*◌, ◌/◌, ◌%◌, ◌^◌, ◌<◌, ◌≤◌, min, List, [], ◌∷◌, bit_and, refl}
+use Rattle.std.specs.Prelude.{◌≡◌, ℕ, zero, suc, ◌+◌, ◌*◌, ◌/◌, ◌%◌, ◌^◌, ◌<◌, ◌≤◌, List, [], ◌∷◌, bit_and, refl}
 use Rattle.std.proofs.Common.{ap₂, ◌∙◌, pow-suc, arith}
 use Rattle.std.specs.Int.Bits.{and_step}
 use Rattle.terms.specs.declared.term.Term.{Term}

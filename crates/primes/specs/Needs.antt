@@ -4,7 +4,7 @@ use Rattle.std.specs.List.{range_with_len}
 use Rattle.terms.specs.declared.term.Term.{Term}
 use Rattle.terms.specs.Lists.{padded}
 use Rattle.terms.specs.Terms.{bit, holds}
-use Rattle.terms.specs.Tables.{Table, rows}
+use Rattle.terms.specs.Tables.{Table}
 use Rattle.sources.specs.Sources.{on_at}
 use Rattle.primes.specs.declared.need.Need.{Need}
 use Rattle.primes.specs.declared.need.NeedList.{NeedList}

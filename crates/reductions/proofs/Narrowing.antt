@@ -1,14 +1,14 @@
 -- Steps that are taken for good reasons lose no good set.
-use Rattle.std.proofs.Common.{◌≡◌, ℕ, ◌+◌, ◌-◌, ◌<◌, ◌≤◌, Bool, true, false, cond, not, ◌&&◌, ◌||◌, eqb, ◌⊎◌, List, [], ◌∷◌, length, sym, refl, ap, ◌∙◌, subst, inl, inr, ⊎_elim, arith}
-use Rattle.std.proofs.lemmas.Bool.{cases_Bool, cases_eq, or_right, and_left, and_right, both_ways, and_parts, or_cases, eqb-true}
+use Rattle.std.proofs.Common.{◌≡◌, ℕ, ◌<◌, Bool, true, false, cond, not, eqb, ◌⊎◌, List, ◌∷◌, length, sym, refl, ◌∙◌, subst, inl, inr, ⊎_elim, arith}
+use Rattle.std.proofs.lemmas.Bool.{cases_Bool, cases_eq, or_right, and_right, both_ways, and_parts, or_cases, eqb-true}
 use Rattle.orders.specs.Orders.{Laws}
 use Rattle.charts.specs.Grids.{Grid}
 use Rattle.charts.specs.Best.{Problem}
-use Rattle.charts.specs.Sets.{Held, Covers, fine, exceeds, put, without}
+use Rattle.charts.specs.Sets.{Held, exceeds, put, without}
 use Rattle.charts.proofs.Values.{part, swap, fine_down, exceeds_cong, put_other, put_same, without_same, without_other}
 use Rattle.reductions.specs.declared.step.Step.{Step}
 use Rattle.reductions.specs.Steps.{step, taken_by, banned_by, is_free, is_fresh}
-use Rattle.reductions.specs.Goals.{Good, Here, Somewhere, turns, Narrows}
+use Rattle.reductions.specs.Goals.{Good, Narrows}
 use Rattle.reductions.specs.Spares.{Enough, Implied, Outdone, Useless, Spare}
 use Rattle.reductions.proofs.Stepping.{forced, good_like, free_like, fresh_room, turns_forced}
 

@@ -1,8 +1,7 @@
 -- The reductions along a trail.
-use Rattle.std.proofs.Common.{◌≡◌, ℕ, ◌<◌, ◌≤◌, Bool, true, false, cond, not, ◌&&◌, ◌||◌, eqb, ◌⊎◌, List, [], ◌∷◌, length, sym, refl, ap, ◌∙◌, subst, inl, inr, arith}
+use Rattle.std.proofs.Common.{◌≡◌, ℕ, ◌<◌, Bool, true, false, cond, not, ◌&&◌, eqb, List, ◌∷◌, length, sym, refl, ap, ◌∙◌, subst}
 use Rattle.std.proofs.lemmas.Bool.{or_right}
 use Rattle.charts.specs.Best.{Problem}
-use Rattle.charts.specs.Sets.{member}
 use Rattle.reductions.specs.declared.node.Node.{Node}
 use Rattle.reductions.specs.declared.step.Step.{Step}
 use Rattle.reductions.specs.declared.trail.Trail.{Trail}

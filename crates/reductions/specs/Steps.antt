@@ -1,5 +1,5 @@
 -- The steps of a search, the last one first: which columns were taken or banned, in turn.
-use Rattle.std.specs.Prelude.{◌≡◌, ℕ, zero, suc, Bool, true, false, cond, not, ◌&&◌, ◌||◌, List, [], ◌∷◌, ◌==◌, nat_lt, slice_index_or}
+use Rattle.std.specs.Prelude.{ℕ, zero, suc, Bool, true, false, cond, not, ◌&&◌, ◌||◌, List, [], ◌∷◌, ◌==◌, nat_lt, slice_index_or}
 use Rattle.reductions.specs.declared.step.Step.{Step}
 
 abbrev pub step : ℕ → Bool → Bool → Step

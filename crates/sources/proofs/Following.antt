@@ -12,7 +12,7 @@ use Rattle.terms.specs.Tables.{Table, mark_at, blank}
 use Rattle.sources.specs.declared.call.Call.{Call}
 use Rattle.sources.specs.declared.call.Call.TheVariants.{Size, Mark as MarkRow, Sweep, Look}
 use Rattle.sources.specs.declared.call.Outcome.{Outcome}
-use Rattle.sources.specs.declared.call.Outcome.TheVariants.{Done, Found, Refused}
+use Rattle.sources.specs.declared.call.Outcome.TheVariants.{Done, Found}
 use Rattle.sources.specs.Rules.{settled}
 use Rattle.sources.specs.Calls.{entered, painted, changed}
 use Rattle.sources.specs.Model.{breaks, resized, remarked, inputs_after, mark_after, given, concluded, answer, answers, Faithful}
@@ -29,12 +29,12 @@ unfolding inputs_after mark_after
 agrees_new tb e = subst (λ (u : Table). Agrees u []) (sym e)
     (record { inputs = refl; full = refl; marks = λ r h. get_or-replicate 2 r Off Off h })
 
-get_d_painted : (p : ℕ → Bool) (m d : Mark) (a r : ℕ) (xs : List Mark) → r < length xs → get_or (painted p m a xs) r d ≡ cond (p (a + r)) m (get_or xs r d)
-get_d_painted p m d a r [] h = absurd (omega arith)
-get_d_painted p m d a zero (x ∷ xs) h = ap (λ (k : ℕ). cond (p k) m x) (sym (add-zero a))
-get_d_painted p m d a (suc r) (x ∷ xs) h =
+get_or_painted : (p : ℕ → Bool) (m d : Mark) (a r : ℕ) (xs : List Mark) → r < length xs → get_or (painted p m a xs) r d ≡ cond (p (a + r)) m (get_or xs r d)
+get_or_painted p m d a r [] h = absurd (omega arith)
+get_or_painted p m d a zero (x ∷ xs) h = ap (λ (k : ℕ). cond (p k) m x) (sym (add-zero a))
+get_or_painted p m d a (suc r) (x ∷ xs) h =
     let e : suc a + r ≡ a + suc r = omega arith in
-    get_d_painted p m d (suc a) r xs (omega arith) ∙ ap (λ (k : ℕ). cond (p k) m (get_or xs r d)) e
+    get_or_painted p m d (suc a) r xs (omega arith) ∙ ap (λ (k : ℕ). cond (p k) m (get_or xs r d)) e
 
 -- the model after an accepted call
 module _ (before : List Call) (c : Call) (e : breaks (inputs_after before) c ≡ None) where
@@ -82,7 +82,7 @@ mark_change tb (MarkRow row c) r h b =
     ]
 mark_change tb (Sweep m l c) r h b =
     let k : r < length tb.marks = omega arith in
-    get_d_painted (agrees m l) (entered c) Off 0 r tb.marks k ∙ ap (λ (j : ℕ). cond (agrees m l j) (entered c) (mark_at tb r)) (omega arith)
+    get_or_painted (agrees m l) (entered c) Off 0 r tb.marks k ∙ ap (λ (j : ℕ). cond (agrees m l j) (entered c) (mark_at tb r)) (omega arith)
 mark_change tb (Look row) r h b = refl
 
 -- where two marks agree on the rows there were, they agree after an accepted call

@@ -1,12 +1,12 @@
 -- The rules, where a call passes them.
-use Rattle.std.specs.Prelude.{◌≡◌, ℕ, zero, suc, ◌^◌, ◌<◌, ◌≤◌, Bool, true, false, cond, not, ◌&&◌, ◌||◌, ltb, leb, ◌⊎◌, List, take, replicate, is_some, Some, None, Ok, Err, Option, Result, refl}
-use Rattle.std.proofs.Common.{sym, ap, subst, ◌∙◌, inl, inr, arith}
-use Rattle.std.proofs.lemmas.Bool.{lt-leb, le-ltb, and_parts}
+use Rattle.std.specs.Prelude.{◌≡◌, ℕ, ◌^◌, ◌<◌, ◌≤◌, true, false, is_some, Some, None, Ok, Err, Option, refl}
+use Rattle.std.proofs.Common.{arith}
+use Rattle.std.proofs.lemmas.Bool.{lt-leb, le-ltb}
 use Rattle.std.specs.Option.{unwrap_or}
 use Rattle.terms.specs.declared.mark.Mark.{Mark}
 use Rattle.terms.specs.declared.mark.Mark.TheVariants.{Off}
 use Rattle.terms.specs.declared.refusal.Refusal.{Refusal}
-use Rattle.terms.specs.declared.refusal.Refusal.TheVariants.{InputsOutOfRange, NoSuchRow, NoSuchMark, MalformedTerm}
+use Rattle.terms.specs.declared.refusal.Refusal.TheVariants.{NoSuchMark}
 use Rattle.terms.specs.Marks.{with_code}
 use Rattle.terms.specs.Rules.{mark_by_code}
 use Rattle.terms.specs.Terms.{is_term}

@@ -1,12 +1,11 @@
 -- Lists of terms, one term after the other.
-use Rattle.std.specs.Prelude.{◌≡◌, ℕ, zero, suc, ◌+◌, ◌^◌, ◌<◌, ◌≤◌, Bool, true, false, ◌&&◌, ◌||◌, T, List, [], ◌∷◌, ◌++◌, map, length, get_or, take, drop, Ok, slice_index_or, refl}
-use Rattle.std.proofs.Common.{sym, ap, ap₂, subst, ◌∙◌, le_of_suc-le-suc, not-suc-le-zero, arith, drop_of_length-le, drop-cons, take-suc}
+use Rattle.std.specs.Prelude.{◌≡◌, ℕ, zero, suc, ◌^◌, ◌<◌, ◌≤◌, true, false, ◌&&◌, ◌||◌, List, [], ◌∷◌, ◌++◌, map, length, get_or, take, drop, Ok, slice_index_or}
+use Rattle.std.proofs.Common.{sym, ap, ap₂, ◌∙◌, le_of_suc-le-suc, not-suc-le-zero, arith, drop_of_length-le, drop-cons, take-suc}
 use Rattle.std.proofs.lemmas.List.{map-append}
-use Rattle.std.proofs.lemmas.List.FromFn.{length-map-range_with_len, get_or-map-range_with_len}
+use Rattle.std.proofs.lemmas.List.FromFn.{get_or-map-range_with_len}
 use Rattle.std.proofs.lemmas.Bool.{and_parts}
 use Rattle.terms.specs.declared.term.Term.{Term}
-use Rattle.terms.specs.Terms.{is_term, agrees, holds}
-use Rattle.terms.specs.Tables.{Proper}
+use Rattle.terms.specs.Terms.{is_term, holds}
 use Rattle.terms.specs.declared.mark.Mark.TheVariants.{Off}
 use Rattle.sources.specs.Sources.{looked}
 use Rattle.sources.specs.TermLists.{bytes, some_holds, mark_by, listed, all_terms}

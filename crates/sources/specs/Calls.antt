@@ -1,5 +1,5 @@
 -- What each accepted call on a truth table makes of it.
-use Rattle.std.specs.Prelude.{ℕ, zero, suc, ◌^◌, Bool, cond, List, [], ◌∷◌, take, slice_set}
+use Rattle.std.specs.Prelude.{ℕ, suc, ◌^◌, Bool, cond, List, [], ◌∷◌, take, slice_set}
 use Rattle.std.specs.Option.{unwrap_or}
 use Rattle.terms.specs.declared.mark.Mark.{Mark}
 use Rattle.terms.specs.declared.mark.Mark.TheVariants.{Off}

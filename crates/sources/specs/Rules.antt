@@ -1,5 +1,5 @@
 -- When a call on a table is refused: the first rule that it breaks, in the fixed order.
-use Rattle.std.specs.Prelude.{ℕ, ◌^◌, Bool, true, false, cond, not, ◌&&◌, ◌||◌, is_some, Some, None, Ok, Err, Option, Result, nat_le, nat_lt}
+use Rattle.std.specs.Prelude.{ℕ, ◌^◌, cond, ◌||◌, is_some, Some, None, Ok, Err, Option, Result, nat_le, nat_lt}
 use Rattle.terms.specs.declared.refusal.Refusal.{Refusal}
 use Rattle.terms.specs.declared.refusal.Refusal.TheVariants.{InputsOutOfRange, NoSuchRow, NoSuchMark, MalformedTerm}
 use Rattle.terms.specs.Marks.{with_code}

@@ -38,6 +38,6 @@ pub trait Source {
         }
     }
 
-    // it has 1 to 8 inputs, and a mark for each row
+    // the table that it stands for has 1 to 8 inputs, and a mark for each row
     ghost proper: { (s : Self) → Proper (meaning s) };
 }

@@ -1,5 +1,5 @@
 -- A term by its bits: which rows it holds.
-use Rattle.std.proofs.Common.{◌≡◌, ℕ, zero, suc, ◌+◌, ◌*◌, ◌/◌, ◌%◌, ◌^◌, ◌<◌, ◌≤◌, min, cond, T, eqb, ◌⊎◌, sym, refl, ap, ◌∙◌, subst, ap₂, inl, inr, pow-suc, arith, eqb→eq, pow_mono}
+use Rattle.std.proofs.Common.{◌≡◌, ℕ, zero, suc, ◌+◌, ◌/◌, ◌%◌, ◌^◌, ◌<◌, ◌≤◌, min, cond, T, eqb, sym, ap, ◌∙◌, subst, inl, inr, pow-suc, arith, eqb→eq, pow_mono}
 use native.Mathlib.Nat.{div-div-eq-div-mul, div-eq_of_lt}
 use lib.Bits.{bit_and, and_step, and_shr, and_le_r, and_mask}
 use Rattle.std.proofs.lemmas.Bool.{cases_eq, cond_both}

@@ -1,5 +1,5 @@
 -- Tables of fixed size that are filled from the front.
-use Rattle.std.proofs.Common.{◌≡◌, ℕ, zero, suc, ◌+◌, ◌-◌, ◌<◌, ◌≤◌, List, [], ◌∷◌, ◌++◌, length, get_or, take, set, replicate, sym, refl, ap, ◌∙◌, subst, append_assoc, arith, length-append}
+use Rattle.std.proofs.Common.{◌≡◌, ℕ, suc, ◌-◌, ◌<◌, ◌≤◌, List, [], ◌∷◌, ◌++◌, length, get_or, take, set, replicate, sym, ap, ◌∙◌, append_assoc, arith, length-append}
 use lib.ListN.{length-replicate, get_or-append}
 use lib.Seq.{set-append_seam, take-append_seam, set-append_left}
 use Rattle.terms.specs.Lists.{padded}
@@ -20,8 +20,8 @@ module _ {A : Type 0} (size : ℕ) (blank : A) where
       ∙ ap (λ (n : ℕ). xs ++ x ∷ replicate (size - n) blank) l
       ∙ sym (append_assoc xs (x ∷ []) (replicate (size - length (xs ++ x ∷ [])) blank))
 
-  pub get_d_padded : (xs : List A) (i : ℕ) (d : A) → i < length xs → get_or (padded size blank xs) i d ≡ get_or xs i d
-  get_d_padded xs i d h = get_or-append xs (replicate (size - length xs) blank) d i h
+  pub get_or_padded : (xs : List A) (i : ℕ) (d : A) → i < length xs → get_or (padded size blank xs) i d ≡ get_or xs i d
+  get_or_padded xs i d h = get_or-append xs (replicate (size - length xs) blank) d i h
 
   pub take_padded : (xs : List A) → take (length xs) (padded size blank xs) ≡ xs
   take_padded xs = take-append_seam xs (replicate (size - length xs) blank)

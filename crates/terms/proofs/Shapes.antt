@@ -1,5 +1,5 @@
 -- When a mask and levels make a term of n inputs.
-use Rattle.std.proofs.Common.{◌≡◌, ℕ, ◌+◌, ◌*◌, ◌/◌, ◌%◌, ◌^◌, ◌<◌, ◌≤◌, true, false, eqb, ltb, sym, refl, inl, inr, arith, pow_pos, pow_mono}
+use Rattle.std.proofs.Common.{◌≡◌, ℕ, ◌+◌, ◌*◌, ◌/◌, ◌%◌, ◌^◌, ◌<◌, ◌≤◌, true, false, eqb, ltb, sym, refl, inl, inr, arith, pow_pos}
 use native.Mathlib.Nat.{div-eq_of_lt}
 use lib.Bits.{bit_and}
 use Rattle.std.proofs.lemmas.Nat.{shr_split, mod_below}

@@ -1,5 +1,5 @@
 -- A term that another lies inside reads no input that the other does not.
-use Rattle.std.proofs.Common.{◌≡◌, ℕ, zero, suc, ◌+◌, ◌-◌, ◌*◌, ◌/◌, ◌%◌, ◌^◌, ◌<◌, ◌≤◌, min, max, T, eqb, sym, refl, ap, ◌∙◌, subst, inl, inr, arith}
+use Rattle.std.proofs.Common.{◌≡◌, ℕ, zero, suc, ◌-◌, ◌/◌, ◌%◌, ◌^◌, ◌<◌, ◌≤◌, max, T, eqb, refl, ap, ◌∙◌, inl, inr, arith}
 use lib.Bits.{bit_and, bit_or, or_shr, or_step, or_disjoint}
 use Rattle.std.proofs.lemmas.Bool.{cases_eq, cases_lt, eqb-true}
 use Rattle.terms.specs.declared.term.Term.{Term}

@@ -1,5 +1,5 @@
 -- Terms (cubes): which rows a term holds, its contacts, its weight, number, rank and written form.
-use Rattle.std.specs.Prelude.{◌≡◌, ℕ, zero, suc, ◌+◌, ◌*◌, ◌/◌, ◌%◌, ◌^◌, ◌<◌, Bool, true, false, cond, ◌&&◌, T, List, [], ◌∷◌, ◌==◌, bit_and, nat_lt}
+use Rattle.std.specs.Prelude.{ℕ, zero, suc, ◌+◌, ◌*◌, ◌/◌, ◌%◌, ◌^◌, ◌<◌, Bool, cond, ◌&&◌, T, List, [], ◌∷◌, ◌==◌, bit_and, nat_lt}
 use Rattle.terms.specs.declared.term.Term.{Term}
 
 -- bit i of a number: input i has weight 2 ^ i

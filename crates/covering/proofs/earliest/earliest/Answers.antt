@@ -1,10 +1,9 @@
-use Rattle.std.proofs.Common.{◌≡◌, ℕ, suc, ◌<◌, Bool, true, false, sym, refl, subst, add-one, arith}
+use Rattle.std.proofs.Common.{◌≡◌, suc, ◌<◌, sym, subst, add-one, arith}
 use Rattle.charts.specs.declared.columns.ColumnSet.{ColumnSet}
 use Rattle.charts.specs.Best.{problem}
-use Rattle.charts.specs.Sets.{member, cost, size, Least, Settled, FirstBest}
+use Rattle.charts.specs.Sets.{member, cost, size, Least, Settled}
 use Rattle.reductions.specs.Trails.{taken, banned}
-use Rattle.covering.specs.Seeking.{Priced}
-use Rattle.covering.proofs.Settling.{settled_none, settled_keep, settled_found, settled_none_found, asks_apart}
+use Rattle.covering.proofs.Settling.{settled_found, settled_none_found, asks_apart}
 use Rattle.covering.proofs.earliest.earliest.Goals as goal
 
 pub find-requires : goal.find-requires

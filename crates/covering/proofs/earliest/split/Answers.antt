@@ -1,4 +1,4 @@
-use Rattle.std.proofs.Common.{◌≡◌, ℕ, ◌<◌, Bool, true, not, ◌&&◌, ◌||◌, eqb, length, sym, ap, ◌∙◌, subst, add-one, arith}
+use Rattle.std.proofs.Common.{◌≡◌, Bool, true, not, ◌&&◌, ◌||◌, eqb, ap, ◌∙◌, subst, add-one, arith}
 use Rattle.charts.specs.Sets.{member}
 use Rattle.charts.proofs.Membership.{no_member}
 use Rattle.reductions.specs.Trails.{taken, banned}

@@ -1,8 +1,7 @@
-use Rattle.std.proofs.Common.{◌≡◌, ℕ, ◌<◌, ◌≤◌, Bool, true, false, sym, refl, ap, ◌∙◌, subst, arith}
+use Rattle.std.proofs.Common.{true, false}
 use Rattle.charts.specs.Best.{problem}
 use Rattle.charts.specs.Sets.{member}
 use Rattle.reductions.specs.Trails.{taken, banned}
-use Rattle.covering.specs.Seeking.{Priced}
 use Rattle.covering.proofs.Cuts.{cut, lost, tested}
 use Rattle.covering.proofs.looking.look.Goals as goal
 

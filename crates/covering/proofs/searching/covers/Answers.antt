@@ -1,5 +1,5 @@
-use Rattle.std.proofs.Common.{◌<◌, sym, refl, arith, below_more}
-use Rattle.std.proofs.lemmas.Bool.{both_ways, true≢false, false≢true}
+use Rattle.std.proofs.Common.{◌<◌, refl, arith, below_more}
+use Rattle.std.proofs.lemmas.Bool.{both_ways, false≢true}
 use Rattle.covering.proofs.searching.covers.Goals as goal
 
 pub returns-then-not-held_by : goal.returns-then-not-held_by

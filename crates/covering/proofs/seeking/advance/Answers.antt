@@ -1,9 +1,9 @@
-use Rattle.std.proofs.Common.{◌≡◌, ℕ, ◌<◌, ◌≤◌, Bool, true, false, sym, refl, subst, arith}
+use Rattle.std.proofs.Common.{◌≡◌, ◌<◌, true, false, sym, subst, arith}
 use Rattle.charts.specs.Best.{problem}
 use Rattle.charts.specs.Sets.{member, Covers, fine}
 use Rattle.reductions.specs.declared.node.Node.{Node}
 use Rattle.reductions.specs.Trails.{taken, banned}
-use Rattle.covering.specs.Seeking.{Leads, Barren}
+use Rattle.covering.specs.Seeking.{Barren}
 use Rattle.covering.proofs.Walking.{leads_none, leads_reduce, leads_end, leads_back, less_take, leads_take, less_back}
 use Rattle.covering.proofs.seeking.advance.Goals as goal
 

@@ -1,10 +1,10 @@
-use Rattle.std.proofs.Common.{◌≡◌, ℕ, Bool, true, false, sym, refl, subst, inl}
+use Rattle.std.proofs.Common.{◌≡◌, ℕ, true, false, sym, refl, subst, inl}
 use Rattle.charts.specs.Best.{problem}
 use Rattle.charts.specs.Sets.{member}
 use Rattle.charts.proofs.Values.{exceeds_same}
 use Rattle.reductions.specs.declared.node.Node.{Node}
 use Rattle.reductions.specs.Goals.{Good, Somewhere}
-use Rattle.reductions.specs.Trails.{taken, banned, steps_of}
+use Rattle.reductions.specs.Trails.{taken, banned}
 use Rattle.covering.proofs.Walking.{good_found}
 use Rattle.covering.proofs.seeking.find.Goals as goal
 

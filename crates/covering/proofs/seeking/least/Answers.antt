@@ -1,11 +1,10 @@
-use Rattle.std.proofs.Common.{◌≡◌, ℕ, ◌<◌, Bool, true, false, sym, refl, ap, ◌∙◌, subst, arith}
+use Rattle.std.proofs.Common.{◌≡◌, ℕ, false, sym, refl, ap, ◌∙◌, subst, arith}
 use Rattle.charts.specs.declared.columns.ColumnSet.{ColumnSet}
 use Rattle.charts.specs.Best.{problem}
 use Rattle.charts.specs.Sets.{member, Covers, cost, size, Least}
 use Rattle.charts.proofs.Membership.{no_member, every_member}
 use Rattle.reductions.specs.declared.node.Node.{Node}
 use Rattle.reductions.specs.Trails.{taken, banned}
-use Rattle.covering.specs.Seeking.{Priced}
 use Rattle.covering.proofs.Walking.{Chasing, chasing_start, chasing_done, chasing_on, chasing_last, chasing_less}
 use Rattle.covering.proofs.seeking.least.Goals as goal
 

@@ -1,7 +1,7 @@
 use Rattle.std.proofs.Common.{◌≡◌, ℕ, suc, ◌-◌, ◌<◌, ◌≤◌, List, [], ◌∷◌, length, get_or, drop, sym, ap, ◌∙◌, ap₂, arith, length-drop, drop_of_length-le}
 use Rattle.std.proofs.lemmas.Bool.{le-leb, lt-leb}
 use Rattle.terms.specs.declared.term.Term.{Term}
-use Rattle.orders.specs.Orders.{Meaning, Laws, total}
+use Rattle.orders.specs.Orders.{Meaning, total}
 use Rattle.orders.proofs.Totalling.{any_order, more_costs_more, wider_costs_less, total_one, total_more}
 use Rattle.orders.proofs.costing.cost.Goals as goal
 

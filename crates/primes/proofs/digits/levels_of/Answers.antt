@@ -1,4 +1,4 @@
-use Rattle.std.proofs.Common.{◌-◌, ◌/◌, ◌%◌, ◌^◌, ◌<◌, ◌≤◌, arith}
+use Rattle.std.proofs.Common.{◌-◌, ◌/◌, ◌^◌, ◌<◌, arith}
 use Rattle.primes.specs.Cubes.{cube_of, levels_in}
 use Rattle.primes.proofs.BaseThree.{levels_down, levels_small}
 use Rattle.primes.proofs.digits.levels_of.Goals as goal

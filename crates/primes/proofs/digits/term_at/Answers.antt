@@ -1,4 +1,4 @@
-use Rattle.std.proofs.Common.{◌≡◌, ℕ, ◌-◌, ◌/◌, ◌%◌, ◌^◌, ◌<◌, ◌≤◌, sym, refl, ap, ◌∙◌, subst, ap₂, arith}
+use Rattle.std.proofs.Common.{◌≡◌, ℕ, ◌-◌, ◌/◌, ◌^◌, ◌<◌, sym, ap, ◌∙◌, subst, ap₂, arith}
 use Rattle.primes.specs.Cubes.{cube_of, levels_in, mask_in}
 use Rattle.primes.specs.Cubes.{term_of, levels_in_mask, mask_of_lt}
 use lib.Bits.{bit_and}

@@ -1,4 +1,4 @@
-use Rattle.std.proofs.Common.{◌≡◌, ℕ, ◌+◌, ◌<◌, ◌≤◌, Bool, true, List, map, length, get_or, take, filter, sym, refl, ap, ◌∙◌, subst, arith, length-take, length-take-le, get_or-take, rules as known}
+use Rattle.std.proofs.Common.{◌≡◌, ℕ, ◌<◌, ◌≤◌, true, List, map, length, get_or, take, filter, sym, ap, ◌∙◌, subst, arith, length-take, length-take-le, get_or-take, rules as known}
 use lib.ListN.{length-map}
 use Rattle.terms.specs.declared.term.Term.{Term}
 use Rattle.terms.proofs.Padding.{length_padded}
@@ -7,7 +7,7 @@ use Rattle.primes.specs.declared.prime.Prime.{Prime}
 use Rattle.primes.specs.declared.prime.PrimeList.{PrimeList}
 use Rattle.primes.specs.Needs.{listed, row_need}
 use Rattle.primes.specs.Records.{terms_in, records_in, record_meets, no_prime}
-use Rattle.primes.proofs.Essential.{noted, noting_none, noting_sole, noting_all, get_d_any}
+use Rattle.primes.proofs.Essential.{noted, noting_none, noting_sole, noting_all, get_or_any}
 use Rattle.primes.proofs.essentials.mark_essentials.Goals as goal
 use Rattle.primes.proofs.essentials.mark_essentials.Goals.{in-Some, in_default}
 
@@ -31,7 +31,7 @@ loop-k-preserved c =
           let same = c.loop-k.invariant.0 in
           let inside : at < length l.primes = (let b = c.requires.count in let d = c.requires.few in omega arith) in
           noting_sole ps ds k (row_need 0) h l c.loop-k.invariant c.match-sole_holder.list at _ en.0 en.1 en.2
-          (ap (λ (x : Prime). record { term = x.term; number = x.number; needs = x.needs; essential = true }) (get_d_any l.primes at w.index-list-at.result no_prime inside))
+          (ap (λ (x : Prime). record { term = x.term; number = x.number; needs = x.needs; essential = true }) (get_or_any l.primes at w.index-list-at.result no_prime inside))
           (ap (λ (x : PrimeList). x.count) w.list-is) (ap (λ (x : PrimeList). x.primes) w.list-is)
       | in_default w ↦
           noting_none ps ds k (row_need 0) h l c.loop-k.invariant c.match-sole_holder.list w.list-is

@@ -1,9 +1,8 @@
-use Rattle.std.proofs.Common.{◌≡◌, ℕ, ◌+◌, ◌<◌, ◌≤◌, Bool, true, false, List, length, get_or, take, filter, sym, ap, ◌∙◌, subst, add-zero, arith, rules as known}
+use Rattle.std.proofs.Common.{◌≡◌, ℕ, ◌+◌, ◌<◌, Bool, true, false, List, length, get_or, take, filter, sym, ap, ◌∙◌, add-zero, arith, rules as known}
 use Rattle.primes.specs.declared.prime.Prime.{Prime}
-use Rattle.primes.specs.Needs.{meets}
-use Rattle.primes.specs.Records.{no_prime, record_meets, records_in}
+use Rattle.primes.specs.Records.{no_prime, record_meets}
 use Rattle.primes.proofs.Needing.{kept_count}
-use Rattle.primes.proofs.Essential.{get_d_any}
+use Rattle.primes.proofs.Essential.{get_or_any}
 use Rattle.primes.proofs.essentials.sole_holder.Goals as goal
 use Rattle.primes.proofs.essentials.sole_holder.Goals.{then-holds_need, else-holds_need}
 
@@ -15,7 +14,7 @@ loop-i-preserved c =
     let inside : i < length xs = search known in
     let a = c.loop-i.invariant.0 in
     let j : c.loop-i.holders ≡ length (filter q (take i xs)) = c.loop-i.invariant.1 in
-    let here : c.holds_need.result ≡ q (get_or xs i no_prime) = c.holds_need.ensures ∙ ap q (get_d_any xs i c.index-list-i.result no_prime inside) in
+    let here : c.holds_need.result ≡ q (get_or xs i no_prime) = c.holds_need.ensures ∙ ap q (get_or_any xs i c.index-list-i.result no_prime inside) in
     elim c.if-holds_need.branch [
       | then-holds_need w ↦
           let y : q (get_or xs i no_prime) ≡ true = sym here ∙ w.if-holds_need.true in

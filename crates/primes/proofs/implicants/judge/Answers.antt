@@ -1,5 +1,4 @@
-use Rattle.std.proofs.Common.{◌≡◌, ℕ, ◌+◌, ◌*◌, Bool, true, false, not, ◌&&◌, get_or, sym, refl, ap, ◌∙◌, arith}
-use Rattle.terms.specs.Tables.{Table}
+use Rattle.std.proofs.Common.{◌+◌, ◌*◌, Bool, false, ◌&&◌, get_or, sym, ap, ◌∙◌, arith}
 use Rattle.primes.proofs.Judged.{room, judged_split, judged_row}
 use Rattle.primes.proofs.implicants.judge.Goals as goal
 

@@ -1,4 +1,4 @@
-use Rattle.std.proofs.Common.{◌≡◌, ℕ, ◌-◌, ◌^◌, ◌<◌, ◌≤◌, length, sym, ◌∙◌, subst, arith, length-set}
+use Rattle.std.proofs.Common.{ℕ, ◌-◌, ◌<◌, ◌≤◌, length, sym, ◌∙◌, subst, arith, length-set}
 use Rattle.primes.proofs.CubeTerms.{pow3_le}
 use Rattle.primes.proofs.Judged.{settled_more}
 use Rattle.primes.proofs.implicants.judge_all.Goals as goal

@@ -1,4 +1,4 @@
-use Rattle.std.proofs.Common.{◌≡◌, ℕ, ◌+◌, ◌^◌, ◌<◌, ◌≤◌, Bool, true, false, not, List, sym, refl, ap, ◌∙◌, subst, ap₂, arith}
+use Rattle.std.proofs.Common.{ℕ, ◌+◌, ◌^◌, ◌<◌, ◌≤◌, Bool, not, List, sym, ap, ◌∙◌, subst, arith}
 use Rattle.terms.specs.Tables.{Table}
 use Rattle.primes.specs.declared.need.Need.{Need}
 use Rattle.primes.specs.declared.prime.PrimeList.{PrimeList}

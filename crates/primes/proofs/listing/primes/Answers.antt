@@ -1,9 +1,8 @@
-use Rattle.std.proofs.Common.{◌≡◌, ℕ, ◌≤◌, List, map, length, sym, refl, ap, ◌∙◌, subst, ap₂, arith}
+use Rattle.std.proofs.Common.{◌≡◌, List, map, length, sym, refl, ap, ◌∙◌, ap₂, arith}
 use Rattle.terms.specs.declared.term.Term.{Term}
 use Rattle.terms.specs.Lists.{padded}
 use Rattle.terms.specs.Tables.{Table}
 use Rattle.primes.specs.declared.need.Need.{Need}
-use Rattle.primes.specs.declared.prime.Prime.{Prime}
 use Rattle.primes.specs.Needs.{needs, listed}
 use Rattle.primes.specs.Primes.{primes}
 use Rattle.primes.specs.Records.{fresh, record_of, no_prime, terms_in}

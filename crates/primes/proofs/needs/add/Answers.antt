@@ -1,8 +1,6 @@
-use Rattle.std.proofs.Common.{◌≡◌, ℕ, ◌+◌, ◌-◌, ◌^◌, ◌<◌, ◌≤◌, List, [], ◌∷◌, ◌++◌, map, set, sym, refl, ap, ◌∙◌, subst, arith, rules as known}
+use Rattle.std.proofs.Common.{◌+◌, set, sym, refl}
 use Rattle.terms.specs.Tables.{Table}
-use Rattle.std.specs.List.{range_with_len}
-use Rattle.primes.specs.declared.need.Need.{Need}
-use Rattle.primes.specs.Needs.{row_need, pair_need, pairs_at, pairs, is_needed, listed, Tidy}
+use Rattle.primes.specs.Needs.{is_needed}
 use Rattle.primes.proofs.Needing.{add_kept}
 use Rattle.primes.proofs.needs.add.Goals as goal
 

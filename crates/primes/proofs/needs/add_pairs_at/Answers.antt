@@ -1,7 +1,6 @@
-use Rattle.std.proofs.Common.{◌≡◌, ℕ, ◌+◌, ◌-◌, ◌^◌, ◌<◌, ◌≤◌, Bool, List, [], ◌∷◌, ◌++◌, map, filter, sym, refl, ap, ◌∙◌, subst, arith, rules as known}
-use Rattle.std.specs.List.{range_with_len}
+use Rattle.std.proofs.Common.{◌≡◌, ℕ, ◌+◌, ◌-◌, Bool, List, [], ◌∷◌, ◌++◌, filter, sym, ap, ◌∙◌, subst}
 use Rattle.primes.specs.declared.need.Need.{Need}
-use Rattle.primes.specs.Needs.{row_need, pair_need, pairs_at, pairs, is_needed, listed, Tidy}
+use Rattle.primes.specs.Needs.{pairs_at, is_needed, listed, Tidy}
 use Rattle.primes.specs.declared.need.NeedList.{NeedList}
 use Rattle.terms.specs.Terms.{bit}
 use Rattle.terms.proofs.Bits.{shift_bit}

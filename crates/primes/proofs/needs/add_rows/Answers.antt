@@ -1,7 +1,5 @@
-use Rattle.std.proofs.Common.{◌≡◌, ℕ, ◌+◌, ◌-◌, ◌^◌, ◌<◌, ◌≤◌, Bool, List, [], ◌∷◌, ◌++◌, map, sym, refl, ap, ◌∙◌, subst, arith, rules as known}
-use Rattle.std.specs.List.{range_with_len}
-use Rattle.primes.specs.declared.need.Need.{Need}
-use Rattle.primes.specs.Needs.{row_need, pair_need, pairs_at, pairs, is_needed, listed, Tidy}
+use Rattle.std.proofs.Common.{ℕ, ◌^◌, ◌<◌, ◌≤◌, [], ◌∷◌, rules as known}
+use Rattle.primes.specs.Needs.{row_need, is_needed, listed}
 use Rattle.primes.proofs.Needing.{begin, step, finish, fits, rows_left, rows_none, rows_all}
 use Rattle.primes.proofs.needs.add_rows.Goals as goal
 

@@ -1,10 +1,7 @@
-use Rattle.std.proofs.Common.{◌≡◌, ℕ, ◌^◌, ◌≤◌, List, ◌++◌, filter, sym, ap, ◌∙◌, subst}
+use Rattle.std.proofs.Common.{ℕ, ◌≤◌, sym, ap, ◌∙◌, subst}
 use Rattle.terms.specs.Tables.{Table}
-use Rattle.primes.specs.declared.need.Need.{Need}
-use Rattle.primes.specs.declared.need.Work.{Work}
-use Rattle.primes.specs.Needs.{pairs, is_needed, needs, listed}
+use Rattle.primes.specs.Needs.{needs}
 use Rattle.primes.proofs.Needing.{rows_room, plain_needs, quiet_needs, pairs_room, tidy_is, onto}
-use Rattle.primes.proofs.needs.list_needs.Given as given
 use Rattle.primes.proofs.needs.list_needs.Goals as goal
 
 pub add_rows-requires : goal.add_rows-requires

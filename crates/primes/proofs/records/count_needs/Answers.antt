@@ -1,4 +1,4 @@
-use Rattle.std.proofs.Common.{◌≡◌, ℕ, ◌+◌, ◌<◌, Bool, true, false, List, length, get_or, take, filter, sym, ap, ◌∙◌, add-zero, arith, rules as known}
+use Rattle.std.proofs.Common.{◌≡◌, ℕ, ◌+◌, ◌<◌, Bool, true, false, List, length, take, filter, sym, ap, ◌∙◌, add-zero, arith, rules as known}
 use Rattle.primes.specs.declared.need.Need.{Need}
 use Rattle.primes.proofs.Needing.{kept_count}
 use Rattle.primes.specs.Needs.{meets, row_need}

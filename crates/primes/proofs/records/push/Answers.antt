@@ -1,4 +1,4 @@
-use Rattle.std.proofs.Common.{◌≡◌, ℕ, ◌<◌, false, List, length, get_or, set, sym, refl, ap, ◌∙◌, get_or-set_same, set-set, rules as known}
+use Rattle.std.proofs.Common.{◌≡◌, ℕ, ◌<◌, false, List, length, set, refl, ap, ◌∙◌, get_or-set_same, set-set, rules as known}
 use Rattle.terms.specs.declared.term.Term.{Term}
 use Rattle.primes.specs.declared.need.Need.{Need}
 use Rattle.primes.specs.declared.prime.Prime.{Prime}

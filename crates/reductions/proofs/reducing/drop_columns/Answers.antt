@@ -1,6 +1,6 @@
 use Rattle.std.proofs.Common.{◌≡◌, ℕ, ◌<◌, false, sym, refl, subst, arith}
 use Rattle.charts.specs.Best.{problem}
-use Rattle.charts.specs.Sets.{member, Held}
+use Rattle.charts.specs.Sets.{Held}
 use Rattle.reductions.specs.declared.node.Node.{Node}
 use Rattle.reductions.specs.Spares.{wants, Enough, Spare}
 use Rattle.reductions.specs.Trails.{taken, banned}

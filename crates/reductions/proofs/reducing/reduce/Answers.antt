@@ -1,6 +1,5 @@
-use Rattle.std.proofs.Common.{◌≡◌, sym, ◌∙◌}
+use Rattle.std.proofs.Common.{sym, ◌∙◌}
 use Rattle.charts.specs.Best.{problem}
-use Rattle.reductions.specs.Goals.{Narrowed}
 use Rattle.reductions.proofs.Trailing.{narrowed_none, narrowed_more, nearer}
 use Rattle.reductions.proofs.reducing.reduce.Goals as goal
 

@@ -1,4 +1,4 @@
-use Rattle.std.proofs.Common.{◌≡◌, ◌≤◌, true, length, sym, ◌∙◌, arith, rules}
+use Rattle.std.proofs.Common.{◌≤◌, true, length, sym, rules}
 use Rattle.std.proofs.lemmas.List.{set_past}
 use Rattle.charts.proofs.columns.ColumnSet.insert.Goals as goal
 

@@ -1,4 +1,4 @@
-use Rattle.std.proofs.Common.{◌≡◌, refl, ◌∙◌, arith}
+use Rattle.std.proofs.Common.{refl, ◌∙◌, arith}
 use Rattle.terms.specs.Tables.{Table}
 use Rattle.layers.specs.Layers.{view}
 use Rattle.layers.proofs.PutIn.{put_in_bits}

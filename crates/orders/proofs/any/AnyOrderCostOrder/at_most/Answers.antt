@@ -1,4 +1,4 @@
-use Rattle.std.proofs.Common.{◌≡◌, ℕ, sym, ap, subst}
+use Rattle.std.proofs.Common.{◌≡◌, sym, subst}
 use Rattle.orders.specs.declared.any.AnyOrder.{AnyOrder}
 use Rattle.orders.specs.Any.{any_at_most}
 use Rattle.orders.proofs.Chosen.{AtMostOf}

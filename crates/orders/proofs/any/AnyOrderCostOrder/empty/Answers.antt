@@ -1,4 +1,4 @@
-use Rattle.std.proofs.Common.{◌≡◌, ℕ, sym, ap, subst}
+use Rattle.std.proofs.Common.{ℕ, sym, ap, subst}
 use Rattle.orders.proofs.Chosen.{EmptyOf}
 use Rattle.orders.proofs.any.AnyOrderCostOrder.empty.Goals as goal
 

@@ -1,4 +1,4 @@
-use Rattle.std.proofs.Common.{◌≡◌, ℕ, ap, ◌∙◌, ap₂, arith}
+use Rattle.std.proofs.Common.{ℕ, ap, ◌∙◌, ap₂, arith}
 use Rattle.orders.proofs.Small.{count_small}
 use Rattle.orders.proofs.count.CountCostOrder.join.Goals as goal
 

@@ -1,4 +1,4 @@
-use Rattle.std.proofs.Common.{◌≡◌, ℕ, suc, ◌+◌, ◌<◌, ◌≤◌, Bool, true, false, ◌&&◌, leb, List, length, get_or, drop, sym, refl, ap, ◌∙◌, add-one, arith, rules as known}
+use Rattle.std.proofs.Common.{◌≡◌, ℕ, suc, ◌<◌, ◌≤◌, Bool, true, false, ◌&&◌, List, length, get_or, drop, sym, refl, ap, ◌∙◌, add-one, rules as known}
 use Rattle.std.proofs.lemmas.Bool.{le-leb, lt-leb}
 use Rattle.orders.specs.Kinds.{all_small}
 use Rattle.orders.proofs.Small.{small_here, small_none}

@@ -1,4 +1,4 @@
-use Rattle.std.proofs.Common.{◌≡◌, ◌≤◌, false, length, sym, rules}
+use Rattle.std.proofs.Common.{◌≤◌, false, length, sym, rules}
 use Rattle.std.proofs.lemmas.List.{set_past}
 use Rattle.reductions.proofs.needs.NeedSet.remove.Goals as goal
 

@@ -1,4 +1,4 @@
-use Rattle.std.proofs.Common.{◌≡◌, ℕ, Bool, false, List, get_or, refl, ap, ◌∙◌, get_or-set_other}
+use Rattle.std.proofs.Common.{Bool, false, List, get_or, refl, ap, ◌∙◌, get_or-set_other}
 use Rattle.reductions.specs.Spares.{wants}
 use Rattle.reductions.specs.Trails.{taken, banned}
 use Rattle.reductions.proofs.Narrowing.{enough_less}

@@ -1,4 +1,3 @@
-use Rattle.std.proofs.Common.{◌≡◌, length}
 use Rattle.reductions.specs.Spares.{Enough, wants}
 use Rattle.reductions.specs.Trails.{taken, banned}
 use Rattle.reductions.proofs.needs.methods.drop_needs.Given as goal

@@ -1,4 +1,4 @@
-use Rattle.std.proofs.Common.{◌≡◌, ℕ, ◌+◌, ◌<◌, ◌≤◌, true, false, ◌∷◌, length, get_or, set, sym, refl, ap, ◌∙◌, arith, length-set, rules}
+use Rattle.std.proofs.Common.{◌≡◌, ◌+◌, ◌<◌, false, length, get_or, set, sym, refl, ap, ◌∙◌, arith, length-set, rules}
 use Rattle.charts.specs.Sets.{member}
 use Rattle.reductions.specs.Steps.{step, up_to, backed, is_fresh}
 use Rattle.reductions.specs.Trails.{steps_of}

@@ -1,7 +1,6 @@
-use Rattle.std.proofs.Common.{◌≡◌, ℕ, ◌+◌, ◌<◌, ◌≤◌, Bool, true, cond, List, ◌∷◌, length, set, sym, refl, ap, ◌∙◌, subst, arith, rules}
+use Rattle.std.proofs.Common.{◌≡◌, ◌+◌, ◌<◌, Bool, cond, ◌∷◌, length, set, sym, refl, ap, ◌∙◌, arith, rules}
 use Rattle.charts.specs.Sets.{member}
-use Rattle.reductions.specs.declared.step.Step.{Step}
-use Rattle.reductions.specs.Steps.{step, up_to, taken_by, banned_by, is_free, is_fresh}
+use Rattle.reductions.specs.Steps.{step, up_to, is_fresh}
 use Rattle.reductions.specs.Trails.{taken, banned, steps_of}
 use Rattle.reductions.proofs.Stepping.{length_up_to, up_to_push, free_parts, free_like, fresh_room, fresh_more, marked_taken, marked_banned, taken_next, banned_next}
 use Rattle.reductions.proofs.trail.Trail.fix.Goals as goal

@@ -1,4 +1,4 @@
-use Rattle.std.proofs.Common.{◌≡◌, ℕ, suc, ◌-◌, List, sym, ap, ◌∙◌, arith}
+use Rattle.std.proofs.Common.{◌≡◌, suc, ◌-◌, sym, ap, ◌∙◌, arith}
 use Rattle.reductions.specs.Steps.{up_to, owes, backed}
 use Rattle.reductions.proofs.Stepping.{back_pass, back_here}
 use Rattle.reductions.proofs.trail.Trail.last_decision.Goals as goal

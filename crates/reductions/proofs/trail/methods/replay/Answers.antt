@@ -1,4 +1,4 @@
-use Rattle.std.proofs.Common.{◌≡◌, ℕ, ◌+◌, ◌<◌, ◌≤◌, Bool, true, false, length, get_or, sym, refl, ap, ◌∙◌, subst, add-one, arith, rules}
+use Rattle.std.proofs.Common.{◌+◌, ◌<◌, false, get_or, refl, ap, add-one, arith}
 use Rattle.charts.specs.Sets.{member}
 use Rattle.reductions.specs.Steps.{step, up_to}
 use Rattle.reductions.specs.Trails.{taken, banned}

@@ -1,4 +1,4 @@
-use Rattle.std.proofs.Common.{◌≡◌, ℕ, suc, ◌+◌, Bool, not, ◌&&◌, drop, sym, ap, ◌∙◌, add-one}
+use Rattle.std.proofs.Common.{ℕ, suc, Bool, not, ◌&&◌, drop, sym, ap, ◌∙◌, add-one}
 use Rattle.sources.specs.TermLists.{all_terms}
 use Rattle.sources.proofs.Listing.{terms_here, terms_none}
 use Rattle.sources.proofs.term_list.methods.all_terms.Goals as goal

@@ -1,6 +1,5 @@
-use Rattle.std.proofs.Common.{◌≡◌, ℕ, suc, ◌+◌, false, map, get_or, take, vec_items, sym, ap, ◌∙◌, add-one, take_all}
+use Rattle.std.proofs.Common.{ℕ, take, vec_items, sym, ap, ◌∙◌, add-one, take_all}
 use Rattle.std.proofs.lemmas.Bool.{both_ways}
-use Rattle.terms.specs.Terms.{is_term}
 use Rattle.sources.proofs.Listing.{terms_at, gathered_more}
 use Rattle.sources.proofs.term_list.methods.gather.Goals as goal
 

@@ -1,4 +1,4 @@
-use Rattle.std.proofs.Common.{◌≡◌, ℕ, suc, ◌+◌, Bool, ◌||◌, map, drop, sym, ap, ◌∙◌, add-one}
+use Rattle.std.proofs.Common.{ℕ, suc, Bool, ◌||◌, map, drop, sym, ap, ◌∙◌, add-one}
 use Rattle.terms.specs.declared.term.Term.{Term}
 use Rattle.terms.specs.Terms.{holds}
 use Rattle.sources.specs.TermLists.{bytes, some_holds}

@@ -1,6 +1,5 @@
-use Rattle.std.proofs.Common.{◌≡◌, ℕ, ◌^◌, ◌<◌, take, set, sym, refl, ap, ◌∙◌, arith}
+use Rattle.std.proofs.Common.{ℕ, ◌^◌, ◌<◌, sym, refl, arith}
 use lib.Seq.{take-set-lt}
-use Rattle.terms.specs.declared.mark.Mark.{Mark}
 use Rattle.sources.proofs.Judging.{mark_passes, code_named}
 use Rattle.sources.proofs.Painting.{table_eq}
 use Rattle.sources.proofs.truth_table.TruthTable.mark.Goals as goal

@@ -1,4 +1,4 @@
-use Rattle.std.proofs.Common.{◌≡◌, ℕ, ◌≤◌, sym, refl, ap, ◌∙◌, arith}
+use Rattle.std.proofs.Common.{refl, arith}
 use Rattle.sources.proofs.Judging.{size_passes}
 use Rattle.sources.proofs.Painting.{blank_marks}
 use Rattle.sources.proofs.truth_table.TruthTable.size.Goals as goal

@@ -1,4 +1,4 @@
-use Rattle.std.proofs.Common.{◌≡◌, ℕ, suc, ◌+◌, Bool, List, set, sym, ap, ◌∙◌, zero-add, add-one, arith}
+use Rattle.std.proofs.Common.{◌≡◌, ℕ, suc, ◌+◌, Bool, List, set, sym, ap, ◌∙◌, zero-add, add-one}
 use Rattle.terms.specs.declared.mark.Mark.{Mark}
 use Rattle.terms.specs.Terms.{holds}
 use Rattle.sources.proofs.Painting.{begun, begun_in, begun_out, begun_all}

@@ -1,4 +1,4 @@
-use Rattle.std.proofs.Common.{◌<◌, arith, Fits-lit, rules}
+use Rattle.std.proofs.Common.{rules}
 use lib.Count.{ones-le}
 use Rattle.terms.proofs.Bytes.{ones_byte}
 use Rattle.terms.proofs.term.Term.contacts.Goals as goal

@@ -1,4 +1,4 @@
-use Rattle.std.proofs.Common.{◌≡◌, ℕ, ◌-◌, ◌<◌, string_bytes, sym, ◌∙◌, subst, arith}
+use Rattle.std.proofs.Common.{ℕ, ◌-◌, ◌<◌, string_bytes, sym, ◌∙◌, subst, arith}
 use lib.Utf8.{encode}
 use Rattle.terms.proofs.Bits.{symbol_lt}
 use Rattle.terms.proofs.Writing.{written_more}

@@ -1,4 +1,4 @@
-use Rattle.std.proofs.Common.{◌≡◌, ◌∙◌, arith}
+use Rattle.std.proofs.Common.{◌∙◌, arith}
 use Rattle.orders.proofs.Small.{prices_small}
 use Rattle.orders.proofs.price.methods.PriceCostOrder.join.Goals as goal
 

@@ -1,4 +1,4 @@
-use Rattle.std.proofs.Common.{◌≡◌, ℕ, ◌+◌, List, sym, ap, ◌∙◌, subst, arith}
+use Rattle.std.proofs.Common.{◌≡◌, ℕ, ◌+◌, List, sym, subst, arith}
 use Rattle.orders.proofs.Small.{Summed, small_at, summed_none, summed_in, summed_out}
 use Rattle.orders.proofs.price.methods.PriceCostOrder.price.Goals as goal
 use Rattle.orders.proofs.price.methods.PriceCostOrder.price.Goals.{then-term-input-eq1, else-term-input-eq1}

@@ -1,4 +1,4 @@
-use Rattle.std.proofs.Common.{◌≡◌, ℕ, ◌^◌, ◌<◌, List, map, Ok, vec_items, ap, ◌∙◌, ap₂, rules}
+use Rattle.std.proofs.Common.{ℕ, ◌^◌, ◌<◌, List, map, Ok, vec_items, ap, ◌∙◌, ap₂, rules}
 use Rattle.terms.specs.declared.term.Term.{Term}
 use Rattle.sources.specs.TermLists.{bytes, mark_by}
 use Rattle.sources.proofs.Listing.{looked_listed}

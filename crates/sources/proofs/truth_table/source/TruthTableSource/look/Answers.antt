@@ -1,4 +1,4 @@
-use Rattle.std.proofs.Common.{◌≡◌, ℕ, ◌^◌, ◌<◌, get_or, take, sym, refl, ap, ◌∙◌, arith, get_or-take}
+use Rattle.std.proofs.Common.{◌^◌, ◌<◌, refl, arith, get_or-take}
 use Rattle.terms.specs.declared.mark.Mark.TheVariants.{Off}
 use Rattle.sources.proofs.Judging.{look_passes}
 use Rattle.sources.proofs.truth_table.source.TruthTableSource.look.Goals as goal
