@@ -1,5 +1,5 @@
 // The needs that are open, and those that follow from others.
-ghost use Rattle.std.specs.Prelude.{◌≡◌, ℕ, ◌<◌, true, false, ◌⊎◌, set, slice_set};
+ghost use Rattle.std.specs.Prelude.{◌≡◌, ℕ, ◌<◌, ◌≤◌, true, false, ◌⊎◌, set, slice_set};
 ghost use Rattle.charts.specs.Sets.{member, Held};
 ghost use Rattle.reductions.specs.Spares.{wants, Enough, Implied};
 ghost use Rattle.reductions.specs.Trails.{taken, banned};
@@ -31,6 +31,7 @@ impl NeedSet {
 pub fn open_needs<C: Chart>(chart: &C, columns: &ColumnSet) -> NeedSet
     ensures closed { (i : ℕ) → i < (C.Chart.grid chart.now).wanted → wants result i ≡ false → Held (C.Chart.grid chart.now) (member columns.now) i }
     ensures loose { (i : ℕ) → i < (C.Chart.grid chart.now).wanted → wants result i ≡ true → (c : ℕ) → c < (C.Chart.grid chart.now).width → member columns.now c ≡ true → (C.Chart.grid chart.now).held c i ≡ false }
+    ensures past { (i : ℕ) → (C.Chart.grid chart.now).wanted ≤ i → wants result i ≡ false }
 {
     let mut needs = NeedSet { on: [false; 1280] };
     for i in 0..chart.needs() {

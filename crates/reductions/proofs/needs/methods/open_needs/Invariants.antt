@@ -1,4 +1,4 @@
-use Rattle.std.proofs.Common.{◌≡◌, ℕ, ◌<◌, true, false, length}
+use Rattle.std.proofs.Common.{◌≡◌, ℕ, ◌<◌, ◌≤◌, true, false, length}
 use Rattle.charts.specs.Sets.{member, Held}
 use Rattle.reductions.specs.Spares.{wants}
 use Rattle.reductions.proofs.needs.methods.open_needs.Given as goal
@@ -9,3 +9,4 @@ invariant-loop-i g l =
     (length l.needs.on ≡ 1280)
     × ((i : ℕ) → i < l.i → wants l.needs i ≡ false → Held m (member l.columns) i)
     × ((i : ℕ) → i < l.i → wants l.needs i ≡ true → (c : ℕ) → c < m.width → member l.columns c ≡ true → m.held c i ≡ false)
+    × ((i : ℕ) → l.i ≤ i → wants l.needs i ≡ false)
