@@ -1,5 +1,5 @@
 -- Totals of few terms are small.
-use Rattle.std.proofs.Common.{◌≡◌, ℕ, zero, suc, ◌+◌, ◌*◌, ◌/◌, ◌^◌, ◌<◌, ◌≤◌, true, ◌&&◌, leb, List, [], ◌∷◌, length, get_or, drop, sym, refl, ap, ◌∙◌, one-mul, zero-mul, add-one, arith, drop_of_length-le, drop-cons}
+use Rattle.std.proofs.Common.{◌≡◌, ℕ, zero, suc, ◌+◌, ◌*◌, ◌/◌, ◌^◌, ◌<◌, ◌≤◌, true, ◌&&◌, leb, List, [], ◌∷◌, length, get_or, drop, sym, refl, ap, ap₂, ◌∙◌, one-mul, zero-mul, add-one, arith, drop_of_length-le, drop-cons}
 use lib.Bits.{bit_and}
 use lib.Count.{ones-le}
 use Rattle.std.proofs.lemmas.Bool.{and_parts, leb-true}
@@ -8,8 +8,8 @@ use Rattle.terms.specs.declared.term.Term.{Term}
 use Rattle.terms.specs.Terms.{bit, sum_below, contacts}
 use Rattle.terms.proofs.Bits.{bit_lt, shift_bit}
 use Rattle.terms.proofs.Bytes.{ones_byte}
-use Rattle.orders.specs.Orders.{total}
-use Rattle.orders.specs.Kinds.{by_count, by_price, price_at, all_small}
+use Rattle.orders.specs.Orders.{total, JoinsExactly}
+use Rattle.orders.specs.Kinds.{by_count, by_price, price_at, all_small, stopped}
 
 contacts_few : (t : Term) → contacts t ≤ 8
 contacts_few t = let e = ones_byte t.mask t.byte in let h = ones-le 8 t.mask t.byte in omega arith
@@ -17,6 +17,15 @@ contacts_few t = let e = ones_byte t.mask t.byte in let h = ones-le 8 t.mask t.b
 pub count_small : (ts : List Term) → ((total by_count ts).0 ≡ length ts) × ((total by_count ts).1 ≤ 8 * length ts)
 count_small [] = (refl, omega arith)
 count_small (t ∷ ts) = let w = count_small ts in let a = w.0 in let b = w.1 in let c = contacts_few t in (omega arith, omega arith)
+
+-- a sum of few terms never stops
+pub count_joins : (a b : ℕ × ℕ) → JoinsExactly by_count a b (stopped (a.0 + b.0), stopped (a.1 + b.1))
+count_joins a b ts us ea eb few =
+    let p = count_small ts in
+    let q = count_small us in
+    let k : a.0 + b.0 ≤ 256 = omega (arith, ap (λ (x : ℕ × ℕ). x.0) ea, ap (λ (x : ℕ × ℕ). x.0) eb) in
+    let l : a.1 + b.1 ≤ 2048 = omega (arith, ap (λ (x : ℕ × ℕ). x.1) ea, ap (λ (x : ℕ × ℕ). x.1) eb) in
+    ap₂ (λ (x y : ℕ). (x, y)) (omega arith) (omega arith)
 
 pub small_at : (ps : List ℕ) (k : ℕ) → all_small ps ≡ true → get_or ps k 0 ≤ 1000
 small_at [] k e = omega arith
@@ -41,6 +50,9 @@ price_small ps t e = let a = sum_small 8 ps t.mask e in let b = small_at ps 0 e 
 pub prices_small : (ps : List ℕ) (ts : List Term) → all_small ps ≡ true → total (by_price ps) ts ≤ 9000 * length ts
 prices_small ps [] e = omega arith
 prices_small ps (t ∷ ts) e = let a = prices_small ps ts e in let b = price_small ps t e in omega arith
+
+pub price_joins : (ps : List ℕ) (a b : ℕ) → all_small ps ≡ true → JoinsExactly (by_price ps) a b (stopped (a + b))
+price_joins ps a b e ts us ea eb few = let p = prices_small ps ts e in let q = prices_small ps us e in omega arith
 
 -- ---- a price, one input after the other
 pub sum_more : (k : ℕ) (f : ℕ → ℕ) → sum_below (k + 1) f ≡ sum_below k f + f k

@@ -1,5 +1,5 @@
 -- What a cost order means, and the five laws that it keeps.
-use Rattle.std.specs.Prelude.{◌≡◌, Bool, true, ◌⊎◌, List, [], ◌∷◌}
+use Rattle.std.specs.Prelude.{◌≡◌, ◌+◌, ◌≤◌, Bool, true, ◌⊎◌, List, [], ◌∷◌, length}
 use Rattle.terms.specs.declared.term.Term.{Term}
 use Rattle.terms.specs.Terms.{Inside}
 
@@ -31,3 +31,11 @@ pub record Laws (m : Meaning) : Type 0 where
 abbrev pub total : (m : Meaning) → List Term → m.Total
 total m [] = m.empty
 total m (t ∷ ts) = m.join (m.price t) (total m ts)
+
+-- r joins a and b exactly, where they are the totals of terms, of at most 256 in all
+abbrev pub JoinsExactly : (m : Meaning) → m.Total → m.Total → m.Total → Type 0
+JoinsExactly m a b r = (ts us : List Term) → a ≡ total m ts → b ≡ total m us → length ts + length us ≤ 256 → r ≡ m.join a b
+
+-- r compares a and b exactly, where they are the totals of at most 256 terms each
+abbrev pub ComparesExactly : (m : Meaning) → m.Total → m.Total → Bool → Type 0
+ComparesExactly m a b r = (ts us : List Term) → a ≡ total m ts → b ≡ total m us → length ts ≤ 256 → length us ≤ 256 → r ≡ m.at_most a b

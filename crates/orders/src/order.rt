@@ -1,7 +1,7 @@
 // The one interface to a cost order.
-ghost use Rattle.std.specs.Prelude.{◌≡◌, ◌+◌, ◌≤◌, List, length};
+ghost use Rattle.std.specs.Prelude.{◌≡◌, Bool};
 ghost use Rattle.terms.specs.declared.term.Term.{Term as TermOf};
-ghost use Rattle.orders.specs.Orders.{Meaning, Laws, total};
+ghost use Rattle.orders.specs.Orders.{Meaning, Laws, JoinsExactly, ComparesExactly};
 
 use terms::Term;
 
@@ -19,19 +19,32 @@ pub trait CostOrder {
     // the exact total that a total stands for
     ghost exact: { (o : Self) → Self.Total → (meaning o).Total };
 
+    // what each method answers, at any totals
+    ghost empty: { Self → Self.Total };
+
+    ghost price: { Self → TermOf → Self.Total };
+
+    ghost join: { Self → Self.Total → Self.Total → Self.Total };
+
+    ghost at_most: { Self → Self.Total → Self.Total → Bool };
+
     // What no terms cost.
     fn empty(&self) -> Self::Total
-        ensures exact { exact self.now result ≡ (meaning self.now).empty };
+        ensures exact { exact self.now result ≡ (meaning self.now).empty }
+        ensures value { result ≡ empty self.now };
 
     // What one term costs.
     fn price(&self, term: Term) -> Self::Total
-        ensures exact { exact self.now result ≡ (meaning self.now).price term };
+        ensures exact { exact self.now result ≡ (meaning self.now).price term }
+        ensures value { result ≡ price self.now term };
 
     // What two sets of terms cost together, of at most 256 terms in all.
     fn join(&self, a: Self::Total, b: Self::Total) -> Self::Total
-        ensures exact { (ts us : List TermOf) → exact self.now a ≡ total (meaning self.now) ts → exact self.now b ≡ total (meaning self.now) us → length ts + length us ≤ 256 → exact self.now result ≡ (meaning self.now).join (exact self.now a) (exact self.now b) };
+        ensures exact { JoinsExactly (meaning self.now) (exact self.now a) (exact self.now b) (exact self.now result) }
+        ensures value { result ≡ join self.now a b };
 
     // Whether one total is at most another, of at most 256 terms each.
     fn at_most(&self, a: Self::Total, b: Self::Total) -> bool
-        ensures exact { (ts us : List TermOf) → exact self.now a ≡ total (meaning self.now) ts → exact self.now b ≡ total (meaning self.now) us → length ts ≤ 256 → length us ≤ 256 → result ≡ (meaning self.now).at_most (exact self.now a) (exact self.now b) };
+        ensures exact { ComparesExactly (meaning self.now) (exact self.now a) (exact self.now b) result }
+        ensures value { result ≡ at_most self.now a b };
 }

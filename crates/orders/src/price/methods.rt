@@ -1,7 +1,5 @@
 // The order of a list of prices.
-ghost use Rattle.std.specs.Prelude.{◌≡◌, ◌+◌, ◌≤◌, List, length, replicate, nat_le};
-ghost use Rattle.terms.specs.declared.term.Term.{Term as TermOf};
-ghost use Rattle.orders.specs.Orders.{total};
+ghost use Rattle.std.specs.Prelude.{◌≡◌, ◌+◌, replicate, nat_le};
 ghost use Rattle.orders.specs.Kinds.{by_price, price_at, stopped, priced, prices_after};
 ghost use Rattle.orders.specs.Lawful.{price_laws};
 
@@ -43,17 +41,19 @@ impl CostOrder for Price {
 
     ghost exact = { λ _ a. a };
 
-    fn empty(&self) -> u32
-        ensures exact { result ≡ (by_price self.now.prices).empty }
-        ensures value { result ≡ 0 }
-    {
+    ghost empty = { λ _. 0 };
+
+    ghost price = { λ o. price_at o.prices };
+
+    ghost join = { λ _ a b. stopped (a + b) };
+
+    ghost at_most = { λ _. nat_le };
+
+    fn empty(&self) -> u32 {
         0
     }
 
-    fn price(&self, term: Term) -> u32
-        ensures exact { result ≡ (by_price self.now.prices).price term }
-        ensures value { result ≡ price_at self.now.prices term }
-    {
+    fn price(&self, term: Term) -> u32 {
         let mut sum = self.prices[0];
         for input in 0..8 {
             if term.mask >> input & 1 == 1 {
@@ -63,17 +63,11 @@ impl CostOrder for Price {
         sum as u32
     }
 
-    fn join(&self, a: u32, b: u32) -> u32
-        ensures exact { (ts us : List TermOf) → a ≡ total (by_price self.now.prices) ts → b ≡ total (by_price self.now.prices) us → length ts + length us ≤ 256 → result ≡ (by_price self.now.prices).join a b }
-        ensures value { result ≡ stopped (a + b) }
-    {
+    fn join(&self, a: u32, b: u32) -> u32 {
         a.saturating_add(b)
     }
 
-    fn at_most(&self, a: u32, b: u32) -> bool
-        ensures exact { (ts us : List TermOf) → a ≡ total (by_price self.now.prices) ts → b ≡ total (by_price self.now.prices) us → length ts ≤ 256 → length us ≤ 256 → result ≡ (by_price self.now.prices).at_most a b }
-        ensures value { result ≡ nat_le a b }
-    {
+    fn at_most(&self, a: u32, b: u32) -> bool {
         a <= b
     }
 }
