@@ -1,5 +1,6 @@
 -- Totals under every lawful cost order.
-use Rattle.std.proofs.Common.{◌≡◌, ℕ, suc, ◌<◌, true, ◌⊎◌, List, [], ◌∷◌, ◌++◌, length, get_or, drop, sym, refl, ap, ◌∙◌, subst, inl, inr, drop-cons}
+use Rattle.std.proofs.Common.{◌≡◌, ℕ, ◌+◌, ◌<◌, true, ◌⊎◌, List, [], ◌∷◌, ◌++◌, length, get_or, take, sym, refl, ap, ◌∙◌, subst, inl, inr}
+use Rattle.std.proofs.lemmas.List.{append-nil, take_more}
 use Rattle.terms.specs.declared.term.Term.{Term}
 use Rattle.terms.specs.Lists.{In}
 use Rattle.orders.specs.Orders.{Meaning, Laws, total}
@@ -68,6 +69,11 @@ module _ (m : Meaning) (laws : Laws m) where
   pub total_one : (t : Term) → m.price t ≡ total m (t ∷ [])
   total_one t = sym (laws.comm (m.price t) m.empty ∙ laws.unit (m.price t))
 
-  -- one term more at the front
-  pub total_more : (ts : List Term) (i : ℕ) (d : Term) → i < length ts → m.join (m.price (get_or ts i d)) (total m (drop (suc i) ts)) ≡ total m (drop i ts)
-  total_more ts i d h = ap (total m) (sym (drop-cons ts i d h))
+  -- one term more at the end
+  pub total_more : (ts : List Term) (i : ℕ) (d : Term) → i < length ts → m.join (total m (take i ts)) (m.price (get_or ts i d)) ≡ total m (take (i + 1) ts)
+  total_more ts i d h =
+      let t : Term = get_or ts i d in
+      laws.comm (total m (take i ts)) (m.price t)
+      ∙ ap (λ (us : List Term). m.join (m.price t) (total m us)) (sym (append-nil (take i ts)))
+      ∙ sym (any_order (take i ts) t [])
+      ∙ ap (total m) (sym (take_more ts i d h))

@@ -21,9 +21,9 @@ pub fn cost<O: CostOrder>(order: &O, terms: &[Term]) -> Option<O::Total>
         return None;
     }
     let mut sum = order.empty();
-    for i in (0..terms.len()).rev() {
-        let price = order.price(terms[i]);
-        sum = order.join(price, sum);
+    for &term in terms {
+        let price = order.price(term);
+        sum = order.join(sum, price);
     }
     Some(sum)
 }

@@ -41,6 +41,6 @@ impl CostOrder for Count {
     }
 
     fn at_most(&self, a: (u32, u32), b: (u32, u32)) -> bool {
-        a.0 < b.0 || a.0 == b.0 && a.1 <= b.1
+        a <= b
     }
 }

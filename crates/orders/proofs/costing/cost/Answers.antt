@@ -1,49 +1,45 @@
-use Rattle.std.proofs.Common.{◌≡◌, ℕ, suc, ◌-◌, ◌<◌, ◌≤◌, List, [], ◌∷◌, length, get_or, drop, sym, ap, ◌∙◌, ap₂, arith, length-drop, drop_of_length-le}
-use Rattle.std.proofs.lemmas.Bool.{le-leb, lt-leb}
+use Rattle.std.proofs.Common.{ℕ, ◌<◌, List, [], ◌∷◌, length, take, ap, ◌∙◌, ap₂, arith}
+use Rattle.std.proofs.lemmas.List.{take_all, length-take-le}
 use Rattle.terms.specs.declared.term.Term.{Term}
 use Rattle.orders.specs.Orders.{Meaning, total}
 use Rattle.orders.proofs.Totalling.{any_order, more_costs_more, wider_costs_less, total_one, total_more}
 use Rattle.orders.proofs.costing.cost.Goals as goal
 
-pub returns-then-terms-gt256 : goal.returns-then-terms-gt256
-returns-then-terms-gt256 g c =
-    let m : Meaning = g.O.CostOrder.meaning c.args.order.now in
-    let laws = g.O.CostOrder.laws c.args.order.now in
-    record { answered = sym (lt-leb (length c.args.terms.now) 256 c.if-terms-gt256.true); total = c.if-terms-gt256.true; sequence = any_order m laws; more = more_costs_more m laws; wider = wider_costs_less m laws }
+pub returns-then-terms-gt256-clause-sequence : goal.returns-then-terms-gt256-clause-sequence
+returns-then-terms-gt256-clause-sequence g c = any_order _ (g.O.CostOrder.laws c.args.order.now)
 
-pub loop-i-init : goal.loop-i-init
-loop-i-init g c =
-    let m : Meaning = g.O.CostOrder.meaning c.args.order.now in
-    let n : length c.args.terms.now ≤ length c.args.terms.now = omega arith in
-    c.empty-sum.ensures.exact ∙ ap (total m) (sym (drop_of_length-le c.args.terms.now n))
+pub returns-then-terms-gt256-clause-more : goal.returns-then-terms-gt256-clause-more
+returns-then-terms-gt256-clause-more g c = more_costs_more _ (g.O.CostOrder.laws c.args.order.now)
 
-pub loop-i-preserved : goal.loop-i-preserved
-loop-i-preserved g c =
+pub returns-then-terms-gt256-clause-wider : goal.returns-then-terms-gt256-clause-wider
+returns-then-terms-gt256-clause-wider g c = wider_costs_less _ (g.O.CostOrder.laws c.args.order.now)
+
+pub loop-term-init : goal.loop-term-init
+loop-term-init g c = c.empty-sum.ensures.exact
+
+pub loop-term-preserved : goal.loop-term-preserved
+loop-term-preserved g c =
     let m : Meaning = g.O.CostOrder.meaning c.args.order.now in
     let laws = g.O.CostOrder.laws c.args.order.now in
     let ts : List Term = c.args.terms.now in
-    let i : ℕ = c.loop-i.i in
-    let t : Term = c.index-terms-i.result in
-    let one : suc (i - 1) ≡ i = omega arith in
-    let inside : i - 1 < length ts = omega arith in
-    let p = c.price-price.ensures.exact in
-    let q = c.loop-i.invariant in
-    let l = length-drop i ts in
-    let here : t ≡ get_or ts (i - 1) t = c.index-terms-i.is in
-    c.join-sum.ensures.exact (t ∷ []) (drop i ts) (p ∙ total_one m laws t) q (omega arith)
-    ∙ ap₂ m.join p q
-    ∙ ap₂ (λ (x : Term) (k : ℕ). m.join (m.price x) (total m (drop k ts))) here (sym one)
-    ∙ total_more m laws ts (i - 1) t inside
+    let i : ℕ = c.loop-term.term-index in
+    let t : Term = c.term-item.result in
+    let inside : i < length ts = omega arith in
+    let few = length-take-le i ts (omega arith) in
+    let so_far = c.loop-term.invariant in
+    let one = c.price-price.ensures.exact in
+    c.join-sum.ensures.exact (take i ts) (t ∷ []) so_far (one ∙ total_one m laws t) (omega arith)
+    ∙ ap₂ m.join so_far (one ∙ ap m.price c.term-item.is)
+    ∙ total_more m laws ts i t inside
 
-pub returns : goal.returns
-returns g c =
-    let m : Meaning = g.O.CostOrder.meaning c.args.order.now in
-    let laws = g.O.CostOrder.laws c.args.order.now in
-    let z : c.loop-i.i ≡ 0 = omega arith in
-    record {
-      answered = sym (le-leb (length c.args.terms.now) 256 (omega arith));
-      total = c.loop-i.invariant ∙ ap (λ (k : ℕ). total m (drop k c.args.terms.now)) z;
-      sequence = any_order m laws;
-      more = more_costs_more m laws;
-      wider = wider_costs_less m laws;
-    }
+pub returns-clause-total : goal.returns-clause-total
+returns-clause-total g c = c.loop-term.invariant ∙ ap (total (g.O.CostOrder.meaning c.args.order.now)) (take_all _ c.args.terms.now (omega arith))
+
+pub returns-clause-sequence : goal.returns-clause-sequence
+returns-clause-sequence g c = any_order _ (g.O.CostOrder.laws c.args.order.now)
+
+pub returns-clause-more : goal.returns-clause-more
+returns-clause-more g c = more_costs_more _ (g.O.CostOrder.laws c.args.order.now)
+
+pub returns-clause-wider : goal.returns-clause-wider
+returns-clause-wider g c = wider_costs_less _ (g.O.CostOrder.laws c.args.order.now)
