@@ -1,9 +1,9 @@
 -- Totals under every lawful cost order.
-use Rattle.std.proofs.Common.{◌≡◌, ℕ, ◌+◌, ◌<◌, true, ◌⊎◌, List, [], ◌∷◌, ◌++◌, length, get_or, take, sym, refl, ap, ◌∙◌, subst, inl, inr}
-use Rattle.std.proofs.lemmas.List.{append-nil, take_more}
+use Rattle.std.proofs.Common.{◌≡◌, ◌≤◌, true, ◌⊎◌, List, [], ◌∷◌, ◌++◌, length, sym, refl, ap, ◌∙◌, subst, inl, inr, arith, length-append}
+use Rattle.std.proofs.lemmas.List.{append-nil}
 use Rattle.terms.specs.declared.term.Term.{Term}
 use Rattle.terms.specs.Lists.{In}
-use Rattle.orders.specs.Orders.{Meaning, Laws, total}
+use Rattle.orders.specs.Orders.{Meaning, Laws, total, JoinsExactly}
 use Rattle.orders.specs.TotalLaws.{TotalInAnyOrder, MoreCostsMore, WiderCostsLess}
 
 module _ {A : Type 0} where
@@ -70,10 +70,12 @@ module _ (m : Meaning) (laws : Laws m) where
   total_one t = sym (laws.comm (m.price t) m.empty ∙ laws.unit (m.price t))
 
   -- one term more at the end
-  pub total_more : (ts : List Term) (i : ℕ) (d : Term) → i < length ts → m.join (total m (take i ts)) (m.price (get_or ts i d)) ≡ total m (take (i + 1) ts)
-  total_more ts i d h =
-      let t : Term = get_or ts i d in
-      laws.comm (total m (take i ts)) (m.price t)
-      ∙ ap (λ (us : List Term). m.join (m.price t) (total m us)) (sym (append-nil (take i ts)))
-      ∙ sym (any_order (take i ts) t [])
-      ∙ ap (total m) (sym (take_more ts i d h))
+  pub total_push : (ts : List Term) (t : Term) (a b : m.Total) → (length ts ≤ 256 → a ≡ total m ts) → JoinsExactly m a (m.price t) b → length (ts ++ t ∷ []) ≤ 256 → b ≡ total m (ts ++ t ∷ [])
+  total_push ts t a b so_far joins few =
+      let n = length-append ts (t ∷ []) in
+      let e = so_far (omega arith) in
+      joins ts (t ∷ []) e (total_one t) (omega arith)
+      ∙ ap (λ (s : m.Total). m.join s (m.price t)) e
+      ∙ laws.comm (total m ts) (m.price t)
+      ∙ ap (λ (us : List Term). m.join (m.price t) (total m us)) (sym (append-nil ts))
+      ∙ sym (any_order ts t [])

@@ -20,11 +20,10 @@ pub fn cost<O: CostOrder>(order: &O, terms: &[Term]) -> Option<O::Total>
     if terms.len() > 256 {
         return None;
     }
-    let mut sum = order.empty();
-    for &term in terms {
-        let price = order.price(term);
-        sum = order.join(sum, price);
-    }
+    let sum = terms.iter().fold(
+        order.empty(),
+        |sum, &term| order.join(sum, order.price(term)),
+    );
     Some(sum)
 }
 

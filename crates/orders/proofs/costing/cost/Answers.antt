@@ -1,8 +1,8 @@
-use Rattle.std.proofs.Common.{ℕ, ◌<◌, List, [], ◌∷◌, length, take, ap, ◌∙◌, ap₂, arith}
-use Rattle.std.proofs.lemmas.List.{take_all, length-take-le}
+use Rattle.std.proofs.Common.{◌≡◌, ◌≤◌, length, rules}
+use Rattle.std.proofs.lemmas.Fn.{fold_over, slice_gives, fronts}
 use Rattle.terms.specs.declared.term.Term.{Term}
 use Rattle.orders.specs.Orders.{Meaning, total}
-use Rattle.orders.proofs.Totalling.{any_order, more_costs_more, wider_costs_less, total_one, total_more}
+use Rattle.orders.proofs.Totalling.{any_order, more_costs_more, wider_costs_less, total_push}
 use Rattle.orders.proofs.costing.cost.Goals as goal
 
 pub returns-then-terms-gt256-clause-sequence : goal.returns-then-terms-gt256-clause-sequence
@@ -14,26 +14,14 @@ returns-then-terms-gt256-clause-more g c = more_costs_more _ (g.O.CostOrder.laws
 pub returns-then-terms-gt256-clause-wider : goal.returns-then-terms-gt256-clause-wider
 returns-then-terms-gt256-clause-wider g c = wider_costs_less _ (g.O.CostOrder.laws c.args.order.now)
 
-pub loop-term-init : goal.loop-term-init
-loop-term-init g c = c.empty-sum.ensures.exact
-
-pub loop-term-preserved : goal.loop-term-preserved
-loop-term-preserved g c =
-    let m : Meaning = g.O.CostOrder.meaning c.args.order.now in
-    let laws = g.O.CostOrder.laws c.args.order.now in
-    let ts : List Term = c.args.terms.now in
-    let i : ℕ = c.loop-term.term-index in
-    let t : Term = c.term-item.result in
-    let inside : i < length ts = omega arith in
-    let few = length-take-le i ts (omega arith) in
-    let so_far = c.loop-term.invariant in
-    let one = c.price-price.ensures.exact in
-    c.join-sum.ensures.exact (take i ts) (t ∷ []) so_far (one ∙ total_one m laws t) (omega arith)
-    ∙ ap₂ m.join so_far (one ∙ ap m.price c.term-item.is)
-    ∙ total_more m laws ts i t inside
-
 pub returns-clause-total : goal.returns-clause-total
-returns-clause-total g c = c.loop-term.invariant ∙ ap (total (g.O.CostOrder.meaning c.args.order.now)) (take_all _ c.args.terms.now (omega arith))
+returns-clause-total g c =
+    let o = c.args.order.now in
+    let exact = g.O.CostOrder.exact o in
+    let m : Meaning = g.O.CostOrder.meaning o in
+    fold_over (fronts {A = Term}) (λ y. y.now) _ (λ ts a. length ts ≤ 256 → exact a ≡ total m ts) _
+    (λ ts a x b f so_far k. (total_push m (g.O.CostOrder.laws o) ts x.now (exact a) (exact b) so_far (search rules), search rules))
+    c.iter.result c.args.terms.now _ c.fold-sum.result (search (rules, slice_gives)) (λ _. c.empty.ensures.exact) c.fold-sum.ensures.ran c.if-terms-gt256.false
 
 pub returns-clause-sequence : goal.returns-clause-sequence
 returns-clause-sequence g c = any_order _ (g.O.CostOrder.laws c.args.order.now)
