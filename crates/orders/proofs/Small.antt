@@ -1,5 +1,5 @@
 -- Totals of few terms are small.
-use Rattle.std.proofs.Common.{◌≡◌, ℕ, zero, suc, ◌+◌, ◌*◌, ◌/◌, ◌^◌, ◌<◌, ◌≤◌, true, ◌&&◌, leb, List, [], ◌∷◌, length, get_or, drop, sym, refl, ap, ap₂, ◌∙◌, one-mul, zero-mul, add-one, arith, drop_of_length-le, drop-cons}
+use Rattle.std.proofs.Common.{◌≡◌, ℕ, zero, suc, ◌+◌, ◌*◌, ◌/◌, ◌^◌, ◌≤◌, true, leb, List, [], ◌∷◌, length, get_or, sym, refl, ap, ap₂, ◌∙◌, one-mul, zero-mul, add-one, arith}
 use lib.Bits.{bit_and}
 use lib.Count.{ones-le}
 use Rattle.std.proofs.lemmas.Bool.{and_parts, leb-true}
@@ -90,10 +90,3 @@ summed_out ps m k s b w =
     let x = w.0 in
     let y = w.1 in
     (omega arith, omega arith)
-
--- ---- prices, one after the other
-pub small_here : (ps : List ℕ) (k d : ℕ) → k < length ps → all_small (drop k ps) ≡ (leb (get_or ps k d) 1000 && all_small (drop (suc k) ps))
-small_here ps k d h = ap all_small (drop-cons ps k d h)
-
-pub small_none : (ps : List ℕ) (k : ℕ) → length ps ≤ k → all_small (drop k ps) ≡ true
-small_none ps k h = ap all_small (drop_of_length-le ps h)

@@ -1,5 +1,6 @@
 -- The three orders: fewest terms, lowest price, shortest longest term.
-use Rattle.std.specs.Prelude.{ℕ, suc, ◌+◌, ◌*◌, min, max, Bool, true, cond, ◌&&◌, ◌||◌, leb, List, [], ◌∷◌, Ok, Err, Result, ◌==◌, nat_le, nat_lt, slice_index}
+use Rattle.std.specs.Prelude.{ℕ, suc, ◌+◌, ◌*◌, min, max, Bool, cond, ◌&&◌, ◌||◌, leb, List, Ok, Err, Result, ◌==◌, nat_le, nat_lt, slice_index}
+use Rattle.std.specs.List.{list_all}
 use Rattle.terms.specs.declared.refusal.Refusal.{Refusal}
 use Rattle.terms.specs.declared.refusal.Refusal.TheVariants.{PriceTooHigh}
 use Rattle.terms.specs.declared.term.Term.{Term}
@@ -34,8 +35,7 @@ by_longest = record { Total = ℕ; empty = 0; price = contacts; join = max; at_m
 
 -- no price is above 1,000
 abbrev pub all_small : List ℕ → Bool
-all_small [] = true
-all_small (p ∷ ps) = nat_le p 1000 && all_small ps
+all_small = list_all (λ p. nat_le p 1000)
 
 -- a number in a total stops at 2 ^ 32 - 1
 abbrev pub stopped : ℕ → ℕ

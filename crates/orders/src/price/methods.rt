@@ -22,10 +22,8 @@ impl Price {
         ensures result { result ≡ priced prices }
         ensures after { self.new.prices ≡ prices_after self.old.prices prices }
     {
-        for k in 0..9 {
-            if prices[k] > HIGHEST_PRICE {
-                return Err(Refusal::PriceTooHigh);
-            }
+        if !prices.iter().all(|&price| price <= HIGHEST_PRICE) {
+            return Err(Refusal::PriceTooHigh);
         }
         *self = Price { prices };
         Ok(())
