@@ -1,12 +1,77 @@
 // The sum of prices: one for each term, and one for each contact, by its input.
-ghost use Rattle.std.specs.Prelude.{◌≡◌, true};
-ghost use Rattle.orders.specs.Kinds.{all_small};
+ghost use Rattle.std.specs.Prelude.{◌≡◌, ◌+◌, true, replicate, nat_le};
+ghost use Rattle.orders.specs.Kinds.{all_small, by_price, price_at, stopped, priced, prices_after};
+ghost use Rattle.orders.specs.Lawful.{price_laws};
 
-pub mod methods;
+use crate::order::CostOrder;
+use terms::{Refusal, Term};
+
+const HIGHEST_PRICE: usize = 1000;
 
 // The first price is the term's; the one after it belongs to a contact of input 0, and so on. None is above 1,000.
 #[derive(Clone, Copy)]
 pub struct Price {
-    prices: [usize; 9],
+    pub prices: [usize; 9],
     ghost small: { all_small prices ≡ true },
+}
+
+impl Price {
+    // All prices 1.
+    pub fn new() -> Price
+        ensures { result.prices ≡ replicate 9 1 }
+    {
+        Price { prices: [1; 9] }
+    }
+
+    // Takes nine prices: the term's, and then one for a contact of each input from input 0 on.
+    pub fn set_prices(&mut self, prices: [usize; 9]) -> Result<(), Refusal>
+        ensures result { result ≡ priced prices }
+        ensures after { self.new.prices ≡ prices_after self.old.prices prices }
+    {
+        if !prices.iter().all(|&price| price <= HIGHEST_PRICE) {
+            return Err(Refusal::PriceTooHigh);
+        }
+        *self = Price { prices };
+        Ok(())
+    }
+}
+
+impl CostOrder for Price {
+    type Total = u32;
+
+    ghost meaning = { λ o. by_price o.prices };
+
+    ghost laws = { λ o. price_laws o.prices };
+
+    ghost exact = { λ _ a. a };
+
+    ghost empty = { λ _. 0 };
+
+    ghost price = { λ o. price_at o.prices };
+
+    ghost join = { λ _ a b. stopped (a + b) };
+
+    ghost at_most = { λ _. nat_le };
+
+    fn empty(&self) -> u32 {
+        0
+    }
+
+    fn price(&self, term: Term) -> u32 {
+        let mut sum = self.prices[0];
+        for input in 0..8 {
+            if term.mask >> input & 1 == 1 {
+                sum += self.prices[input + 1];
+            }
+        }
+        sum as u32
+    }
+
+    fn join(&self, a: u32, b: u32) -> u32 {
+        a.saturating_add(b)
+    }
+
+    fn at_most(&self, a: u32, b: u32) -> bool {
+        a <= b
+    }
 }

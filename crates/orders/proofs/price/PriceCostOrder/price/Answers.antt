@@ -1,7 +1,7 @@
 use Rattle.std.proofs.Common.{◌≡◌, ℕ, ◌+◌, List, sym, subst, arith}
 use Rattle.orders.proofs.Small.{Summed, small_at, summed_none, summed_in, summed_out}
-use Rattle.orders.proofs.price.methods.PriceCostOrder.price.Goals as goal
-use Rattle.orders.proofs.price.methods.PriceCostOrder.price.Goals.{then-term-input-eq1, else-term-input-eq1}
+use Rattle.orders.proofs.price.PriceCostOrder.price.Goals as goal
+use Rattle.orders.proofs.price.PriceCostOrder.price.Goals.{then-term-input-eq1, else-term-input-eq1}
 
 pub loop-input-init : goal.loop-input-init
 loop-input-init c = summed_none c.args.self.now.prices c.args.term.mask c.args.self.now.small
