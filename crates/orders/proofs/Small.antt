@@ -1,12 +1,13 @@
 -- Totals of few terms are small.
-use Rattle.std.proofs.Common.{◌≡◌, ℕ, zero, suc, ◌+◌, ◌*◌, ◌/◌, ◌^◌, ◌≤◌, true, leb, List, [], ◌∷◌, length, get_or, sym, refl, ap, ap₂, ◌∙◌, one-mul, zero-mul, add-one, arith}
-use lib.Bits.{bit_and}
+use Rattle.std.proofs.Common.{Bool, false, ◌<◌, ◌≡◌, ℕ, zero, suc, ◌+◌, ◌*◌, ◌≤◌, ◌==◌, true, leb, List, [], ◌∷◌, length, get_or, cond, filter, sym, refl, ap, ap₂, ◌∙◌, one-mul, zero-mul, add-one, arith}
+use Rattle.std.specs.List.{sum_by, range_with_len}
+use Rattle.std.proofs.lemmas.List.Sums.{sum_by-cons}
 use lib.Count.{ones-le}
 use Rattle.std.proofs.lemmas.Bool.{and_parts, leb-true}
 use Rattle.std.proofs.lemmas.Nat.{mul-le}
 use Rattle.terms.specs.declared.term.Term.{Term}
 use Rattle.terms.specs.Terms.{bit, sum_below, contacts}
-use Rattle.terms.proofs.Bits.{bit_lt, shift_bit}
+use Rattle.terms.proofs.Bits.{bit_lt}
 use Rattle.terms.proofs.Bytes.{ones_byte}
 use Rattle.orders.specs.Orders.{total, JoinsExactly}
 use Rattle.orders.specs.Kinds.{by_count, by_price, price_at, all_small, stopped}
@@ -54,39 +55,25 @@ prices_small ps (t ∷ ts) e = let a = prices_small ps ts e in let b = price_sma
 pub price_joins : (ps : List ℕ) (a b : ℕ) → all_small ps ≡ true → JoinsExactly (by_price ps) a b (stopped (a + b))
 price_joins ps a b e ts us ea eb few = let p = prices_small ps ts e in let q = prices_small ps us e in omega arith
 
--- ---- a price, one input after the other
-pub sum_more : (k : ℕ) (f : ℕ → ℕ) → sum_below (k + 1) f ≡ sum_below k f + f k
+-- ---- the prices of the inputs that a term reads
+sum_first : (f : ℕ → ℕ) (b : Bool) (x : ℕ) (xs : List ℕ) → sum_by f (cond b (x ∷ xs) xs) ≡ cond b (f x + sum_by f xs) (sum_by f xs)
+sum_first f true x xs = sum_by-cons f x xs
+sum_first f false x xs = refl
+
+one_read : (b p s : ℕ) → b < 2 → cond (b == 1) (p + s) s ≡ b * p + s
+one_read zero p s h = omega (arith, zero-mul p)
+one_read (suc zero) p s h = omega (arith, one-mul p)
+one_read (suc (suc b)) p s h = absurd (omega arith)
+
+sum_read : (ps : List ℕ) (m : ℕ) (xs : List ℕ) → sum_by (λ i. get_or ps (i + 1) 0) (filter (λ i. bit m i == 1) xs) ≡ sum_by (λ i. bit m i * get_or ps (suc i) 0) xs
+sum_read ps m [] = refl
+sum_read ps m (x ∷ xs) =
+    let p : ℕ = get_or ps (suc x) 0 in
+    sum_first (λ i. get_or ps (i + 1) 0) (bit m x == 1) x (filter (λ i. bit m i == 1) xs)
+    ∙ ap₂ (λ (q s : ℕ). cond (bit m x == 1) (q + s) s) (ap (λ (k : ℕ). get_or ps k 0) (add-one x)) (sum_read ps m xs)
+    ∙ one_read (bit m x) p (sum_by (λ i. bit m i * get_or ps (suc i) 0) xs) (bit_lt m x)
+    ∙ sym (sum_by-cons (λ i. bit m i * get_or ps (suc i) 0) x xs)
+
+pub read_prices : (ps : List ℕ) (m : ℕ) → sum_by (λ i. get_or ps (i + 1) 0) (filter (λ i. bit m i == 1) (range_with_len 0 8)) ≡ sum_below 8 (λ i. bit m i * get_or ps (suc i) 0)
 unfolding sum_below
-sum_more k f = ap (λ (j : ℕ). sum_below j f) (add-one k)
-
-pub sum_none : (f : ℕ → ℕ) → sum_below 0 f ≡ 0
-unfolding sum_below
-sum_none f = refl
-
-abbrev pub Summed : List ℕ → ℕ → ℕ → ℕ → Type 0
-Summed ps m k s = (s ≡ get_or ps 0 0 + sum_below k (λ i. bit m i * get_or ps (suc i) 0)) × (s ≤ 1000 * (k + 1))
-
-pub summed_none : (ps : List ℕ) (m : ℕ) → all_small ps ≡ true → Summed ps m 0 (get_or ps 0 0)
-summed_none ps m e = let a = sum_none (λ i. bit m i * get_or ps (suc i) 0) in let b = small_at ps 0 e in (omega arith, omega arith)
-
-pub summed_in : (ps : List ℕ) (m k s : ℕ) → all_small ps ≡ true → bit_and (m / 2 ^ k) 1 ≡ 1 → Summed ps m k s → Summed ps m (k + 1) (s + get_or ps (k + 1) 0)
-summed_in ps m k s e b w =
-    let o : bit m k ≡ 1 = sym (shift_bit m k) ∙ b in
-    let p : bit m k * get_or ps (suc k) 0 ≡ get_or ps (suc k) 0 = ap (λ (x : ℕ). x * get_or ps (suc k) 0) o ∙ one-mul (get_or ps (suc k) 0) in
-    let q : get_or ps (k + 1) 0 ≡ get_or ps (suc k) 0 = ap (λ (j : ℕ). get_or ps j 0) (add-one k) in
-    let r = sum_more k (λ i. bit m i * get_or ps (suc i) 0) in
-    let h = small_at ps (suc k) e in
-    let x = w.0 in
-    let y = w.1 in
-    (omega arith, omega arith)
-
-pub summed_out : (ps : List ℕ) (m k s : ℕ) → (bit_and (m / 2 ^ k) 1 ≡ 1 → ⊥) → Summed ps m k s → Summed ps m (k + 1) s
-summed_out ps m k s b w =
-    let l = bit_lt m k in
-    let c : bit m k ≡ 1 → ⊥ = λ e. b (shift_bit m k ∙ e) in
-    let o : bit m k ≡ 0 = omega arith in
-    let p : bit m k * get_or ps (suc k) 0 ≡ 0 = ap (λ (x : ℕ). x * get_or ps (suc k) 0) o ∙ zero-mul (get_or ps (suc k) 0) in
-    let r = sum_more k (λ i. bit m i * get_or ps (suc i) 0) in
-    let x = w.0 in
-    let y = w.1 in
-    (omega arith, omega arith)
+read_prices ps m = sum_read ps m (range_with_len 0 8)

@@ -21,9 +21,13 @@ by_count = record {
   at_most = pair_at_most;
 }
 
--- what a term costs at nine prices: the first for the term, and the others for each contact, by its input
+-- what the contacts of a term cost at nine prices: the price after the first is that of input 0, and so on
+abbrev pub contact_prices : List ℕ → Term → ℕ
+contact_prices ps t = sum_below 8 (λ i. bit t.mask i * slice_index ps (suc i))
+
+-- what a term costs at nine prices: the first for the term, and the others for its contacts
 abbrev pub price_at : List ℕ → Term → ℕ
-price_at ps t = slice_index ps 0 + sum_below 8 (λ i. bit t.mask i * slice_index ps (suc i))
+price_at ps t = slice_index ps 0 + contact_prices ps t
 
 -- the sum of the prices
 abbrev pub by_price : List ℕ → Meaning

@@ -1,6 +1,6 @@
 // The sum of prices: one for each term, and one for each contact, by its input.
 ghost use Rattle.std.specs.Prelude.{◌≡◌, ◌+◌, true, replicate, nat_le};
-ghost use Rattle.orders.specs.Kinds.{all_small, by_price, price_at, stopped, priced, prices_after};
+ghost use Rattle.orders.specs.Kinds.{all_small, by_price, contact_prices, price_at, stopped, priced, prices_after};
 ghost use Rattle.orders.specs.Lawful.{price_laws};
 
 use crate::order::CostOrder;
@@ -34,6 +34,16 @@ impl Price {
         *self = Price { prices };
         Ok(())
     }
+
+    // What the contacts of a term cost.
+    fn contact_prices(&self, term: Term) -> usize
+        ensures { result ≡ contact_prices self.now.prices term }
+    {
+        (0..8)
+            .filter(|&input| term.mask >> input & 1 == 1)
+            .map(|input| self.prices[input + 1])
+            .sum()
+    }
 }
 
 impl CostOrder for Price {
@@ -57,14 +67,9 @@ impl CostOrder for Price {
         0
     }
 
+    #[tactic(auto, using(crate::proofs::Small::price_small))]
     fn price(&self, term: Term) -> u32 {
-        let mut sum = self.prices[0];
-        for input in 0..8 {
-            if term.mask >> input & 1 == 1 {
-                sum += self.prices[input + 1];
-            }
-        }
-        sum as u32
+        (self.prices[0] + self.contact_prices(term)) as u32
     }
 
     fn join(&self, a: u32, b: u32) -> u32 {
