@@ -7,7 +7,8 @@ use crate::order::CostOrder;
 use crate::price::Price;
 use terms::Term;
 
-#[derive(Clone, Copy)]
+// An enum and no trait object: each order has its own kind of total, so there is no `dyn CostOrder`.
+#[derive(Clone, Copy, Debug, PartialEq, Eq)]
 pub enum AnyOrder {
     Count(Count),
     Price(Price),

@@ -7,7 +7,7 @@ ghost use Rattle.orders.specs.Lawful.{count_laws};
 use crate::order::CostOrder;
 use terms::Term;
 
-#[derive(Clone, Copy)]
+#[derive(Clone, Copy, Debug, Default, PartialEq, Eq)]
 pub struct Count;
 
 // A total is the number of terms and the number of contacts.

@@ -7,7 +7,7 @@ ghost use Rattle.orders.specs.Lawful.{longest_laws};
 use crate::order::CostOrder;
 use terms::Term;
 
-#[derive(Clone, Copy)]
+#[derive(Clone, Copy, Debug, Default, PartialEq, Eq)]
 pub struct Longest;
 
 // A total is the length of the longest term, and 0 without terms.

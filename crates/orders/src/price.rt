@@ -9,7 +9,7 @@ use terms::{Refusal, Term};
 const HIGHEST_PRICE: usize = 1000;
 
 // The first price is the term's; the one after it belongs to a contact of input 0, and so on. None is above 1,000.
-#[derive(Clone, Copy)]
+#[derive(Clone, Copy, Debug, PartialEq, Eq)]
 pub struct Price {
     pub prices: [usize; 9],
     ghost small: { all_small prices ≡ true },
@@ -43,6 +43,14 @@ impl Price {
             .filter(|&input| term.mask >> input & 1 == 1)
             .map(|input| self.prices[input + 1])
             .sum()
+    }
+}
+
+impl Default for Price {
+    ghost is_default = { λ price. price.prices ≡ replicate 9 1 };
+
+    fn default() -> Price {
+        Price::new()
     }
 }
 
