@@ -8,6 +8,8 @@ use crate::order::CostOrder;
 use crate::price::Price;
 use terms::Term;
 
+const MOST_TERMS: usize = 256;
+
 // The total of up to 256 terms; totals are exact no further. Whatever the order, the sequence of the terms does not matter,
 // more terms cost no less, and wider terms cost no more.
 pub fn cost<O: CostOrder>(order: &O, terms: &[Term]) -> Option<O::Total>
@@ -17,7 +19,7 @@ pub fn cost<O: CostOrder>(order: &O, terms: &[Term]) -> Option<O::Total>
     ensures more { MoreCostsMore (O.CostOrder.meaning order.now) }
     ensures wider { WiderCostsLess (O.CostOrder.meaning order.now) }
 {
-    if terms.len() > 256 {
+    if terms.len() > MOST_TERMS {
         return None;
     }
     let sum = terms.iter().fold(
