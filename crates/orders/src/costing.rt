@@ -12,6 +12,7 @@ const MOST_TERMS: usize = 256;
 
 // The total of up to 256 terms; totals are exact no further. Whatever the order, the sequence of the terms does not matter,
 // more terms cost no less, and wider terms cost no more.
+#[tactic(auto, using(crate::proofs::Totalling::any_order, crate::proofs::Totalling::more_costs_more, crate::proofs::Totalling::wider_costs_less))]
 pub fn cost<O: CostOrder>(order: &O, terms: &[Term]) -> Option<O::Total>
     ensures answered { is_some result ≡ nat_le (length terms.now) 256 }
     ensures total { MatchOption result (256 < length terms.now) (λ a. O.CostOrder.exact order.now a ≡ total (O.CostOrder.meaning order.now) terms.now) }
