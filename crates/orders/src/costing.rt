@@ -32,6 +32,7 @@ pub fn cost<O: CostOrder>(order: &O, terms: &[Term]) -> Option<O::Total>
 
 // The three orders keep the five laws: count, price at any prices, longest. The answer is how many orders there are.
 // A number that is known beforehand: the function is there for its clauses, which say of each order what the trait's `laws` holds.
+#[tactic(auto, using(crate::specs::Lawful::count_laws, crate::specs::Lawful::price_laws, crate::specs::Lawful::longest_laws))]
 pub fn lawful_orders(price: &Price) -> usize
     ensures count { Laws by_count }
     ensures price { Laws (by_price price.now.prices) }

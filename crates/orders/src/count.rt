@@ -36,6 +36,7 @@ impl CostOrder for Count {
         (1, term.contacts() as u32)
     }
 
+    #[tactic(auto, using(crate::proofs::Small::count_joins))]
     fn join(&self, a: (u32, u32), b: (u32, u32)) -> (u32, u32) {
         (a.0.saturating_add(b.0), a.1.saturating_add(b.1))
     }

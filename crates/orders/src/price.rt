@@ -80,6 +80,7 @@ impl CostOrder for Price {
         (self.prices[0] + self.contact_prices(term)) as u32
     }
 
+    #[tactic(auto, using(crate::proofs::Small::price_joins))]
     fn join(&self, a: u32, b: u32) -> u32 {
         a.saturating_add(b)
     }
