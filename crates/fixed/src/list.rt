@@ -34,18 +34,22 @@ impl<T: Copy, const N: usize> Clone for FixedList<T, N> {
     }
 }
 
-impl<T: Copy, const N: usize> FixedList<T, N> {
-    ghost use Rattle.fixed.specs.Lists.{entries, pushed};
+impl<T: Copy + Default, const N: usize> FixedList<T, N> {
+    ghost use Rattle.fixed.specs.Lists.{entries};
 
-    // No item yet; the places are filled with `blank`.
-    pub fn new(blank: T) -> FixedList<T, N>
+    // No item yet.
+    pub fn new() -> FixedList<T, N>
         ensures { entries result ≡ [] }
     {
         FixedList {
-            items: [blank; N],
+            items: [T::default(); N],
             len: 0,
         }
     }
+}
+
+impl<T: Copy, const N: usize> FixedList<T, N> {
+    ghost use Rattle.fixed.specs.Lists.{entries, pushed};
 
     // How many items there are.
     pub fn len(&self) -> usize
