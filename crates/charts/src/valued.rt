@@ -3,7 +3,8 @@ ghost use Rattle.std.specs.Prelude.{◌≡◌, ◌≤◌, List, length};
 ghost use Rattle.terms.specs.declared.term.Term.{Term};
 ghost use Rattle.orders.specs.Orders.{total};
 ghost use Rattle.charts.specs.Best.{problem, beats};
-ghost use Rattle.charts.specs.Sets.{member, cost, size, passes};
+ghost use Rattle.fixed.specs.Sets.{member};
+ghost use Rattle.charts.specs.Sets.{cost, size, passes};
 
 use crate::chart::Chart;
 use crate::columns::ColumnSet;

@@ -1,7 +1,8 @@
 // Of the best covers the earliest, column by column.
 ghost use Rattle.std.specs.Prelude.{◌<◌};
 ghost use Rattle.charts.specs.Best.{problem};
-ghost use Rattle.charts.specs.Sets.{member, Least, FirstBest};
+ghost use Rattle.fixed.specs.Sets.{member};
+ghost use Rattle.charts.specs.Sets.{Least, FirstBest};
 ghost use Rattle.reductions.specs.Trails.{taken, banned};
 ghost use Rattle.covering.specs.Seeking.{Priced};
 ghost use Rattle.covering.specs.Splitting.{Asks};

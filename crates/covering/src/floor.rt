@@ -1,7 +1,7 @@
 // What a set costs at least: needs that share no column want a column each.
 ghost use Rattle.std.specs.Prelude.{◌≡◌, ℕ, ◌<◌, ◌≤◌, true, false, IfSome};
 ghost use Rattle.charts.specs.Best.{problem};
-ghost use Rattle.charts.specs.Sets.{member};
+ghost use Rattle.fixed.specs.Sets.{member};
 ghost use Rattle.reductions.specs.Trails.{taken, banned};
 ghost use Rattle.covering.specs.Floors.{Apart, Cheapest};
 ghost use Rattle.covering.specs.Seeking.{Priced, Barren};

@@ -1,6 +1,6 @@
 // One look at a node.
 ghost use Rattle.charts.specs.Best.{problem};
-ghost use Rattle.charts.specs.Sets.{member};
+ghost use Rattle.fixed.specs.Sets.{member};
 ghost use Rattle.covering.specs.Seeking.{Priced, Seen};
 
 use crate::choosing::{hardest_need, widest_column};

@@ -1,7 +1,8 @@
 // The search for the best set of columns.
 ghost use Rattle.std.specs.Prelude.{◌≡◌, ℕ, ◌<◌, true, false, length, is_some, IfSome};
 ghost use Rattle.charts.specs.Best.{problem, columns, covering, total_of, best_set, BestSet};
-ghost use Rattle.charts.specs.Sets.{member, columns_in, Covers, Held};
+ghost use Rattle.fixed.specs.Sets.{member};
+ghost use Rattle.charts.specs.Sets.{columns_in, Covers, Held};
 
 use crate::earliest::earliest;
 use crate::seeking::least;

@@ -1,7 +1,8 @@
 // The search for a good set: a walk along a trail.
 ghost use Rattle.std.specs.Prelude.{◌≡◌, ℕ, Bool, true, false, MatchOption};
 ghost use Rattle.charts.specs.Best.{problem};
-ghost use Rattle.charts.specs.Sets.{member, Covers, Least};
+ghost use Rattle.fixed.specs.Sets.{member};
+ghost use Rattle.charts.specs.Sets.{Covers, Least};
 ghost use Rattle.reductions.specs.Goals.{Good};
 ghost use Rattle.reductions.specs.Trails.{taken, banned};
 ghost use Rattle.covering.specs.Seeking.{Priced, Ended};

@@ -1,7 +1,8 @@
 use Rattle.std.proofs.Common.{◌≡◌, suc, ◌<◌, sym, subst, add-one, arith}
-use Rattle.charts.specs.declared.columns.ColumnSet.{ColumnSet}
+use Rattle.charts.specs.Sets.{ColumnSet}
 use Rattle.charts.specs.Best.{problem}
-use Rattle.charts.specs.Sets.{member, cost, size, Least, Settled}
+use Rattle.fixed.specs.Sets.{member}
+use Rattle.charts.specs.Sets.{cost, size, Least, Settled}
 use Rattle.reductions.specs.Trails.{taken, banned}
 use Rattle.covering.proofs.Settling.{settled_found, settled_none_found, asks_apart}
 use Rattle.covering.proofs.earliest.earliest.Goals as goal

@@ -1,5 +1,6 @@
 use Rattle.charts.specs.Best.{problem}
-use Rattle.charts.specs.Sets.{member, Least, Settled}
+use Rattle.fixed.specs.Sets.{member}
+use Rattle.charts.specs.Sets.{Least, Settled}
 use Rattle.covering.specs.Seeking.{Priced}
 use Rattle.covering.proofs.earliest.earliest.Given as goal
 

@@ -1,6 +1,6 @@
 use Rattle.std.proofs.Common.{◌≡◌, Bool, true, not, ◌&&◌, ◌||◌, eqb, ap, ◌∙◌, subst, add-one, arith}
-use Rattle.charts.specs.Sets.{member}
-use Rattle.charts.proofs.Membership.{no_member}
+use Rattle.fixed.specs.Sets.{member}
+use Rattle.fixed.proofs.Members.{no_member}
 use Rattle.reductions.specs.Trails.{taken, banned}
 use Rattle.reductions.proofs.Stepping.{marked_taken, marked_banned}
 use Rattle.covering.specs.Splitting.{Splits}
@@ -8,7 +8,7 @@ use Rattle.covering.proofs.Settling.{splits_none, splits_more, asks_from}
 use Rattle.covering.proofs.earliest.split.Goals as goal
 
 pub loop-k-init : goal.loop-k-init
-loop-k-init c = splits_none _ _ _ (λ k. (no_member c.none.result.on c.none.ensures k, no_member c.none-2.result.on c.none-2.ensures k))
+loop-k-init c = splits_none _ _ _ (λ k. (no_member 256 c.none.result.on c.none.ensures k, no_member 256 c.none-2.result.on c.none-2.ensures k))
 
 pub loop-k-preserved : goal.loop-k-preserved
 loop-k-preserved c =

@@ -1,4 +1,4 @@
-use Rattle.charts.specs.Sets.{member}
+use Rattle.fixed.specs.Sets.{member}
 use Rattle.reductions.specs.Trails.{taken, banned}
 use Rattle.covering.specs.Splitting.{Splits}
 use Rattle.covering.proofs.earliest.split.Given as goal

@@ -1,5 +1,5 @@
 use Rattle.std.proofs.Common.{◌≡◌, ℕ, ◌<◌, true, false}
-use Rattle.charts.specs.Sets.{member}
+use Rattle.fixed.specs.Sets.{member}
 use Rattle.reductions.specs.Trails.{taken, banned}
 use Rattle.covering.proofs.floor.is_apart.Given as goal
 

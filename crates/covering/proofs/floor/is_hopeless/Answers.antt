@@ -1,7 +1,7 @@
 use Rattle.std.proofs.Common.{◌<◌, sym, refl, ◌∙◌, arith}
 use Rattle.std.proofs.lemmas.Bool.{not-true}
 use Rattle.charts.specs.Best.{problem}
-use Rattle.charts.specs.Sets.{member}
+use Rattle.fixed.specs.Sets.{member}
 use Rattle.charts.proofs.Values.{down_short}
 use Rattle.reductions.specs.Trails.{taken, banned}
 use Rattle.covering.proofs.Flooring.{floor_start, floor_more, floor_ends}

@@ -1,6 +1,6 @@
 use Rattle.std.proofs.Common.{◌≤◌}
 use Rattle.charts.specs.Best.{problem}
-use Rattle.charts.specs.Sets.{member}
+use Rattle.fixed.specs.Sets.{member}
 use Rattle.reductions.specs.Trails.{taken, banned}
 use Rattle.covering.specs.Floors.{Floor}
 use Rattle.covering.proofs.floor.is_hopeless.Given as goal

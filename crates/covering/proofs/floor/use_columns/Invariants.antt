@@ -1,5 +1,5 @@
 use Rattle.std.proofs.Common.{◌≡◌, ℕ, ◌<◌, true, false}
-use Rattle.charts.specs.Sets.{member}
+use Rattle.fixed.specs.Sets.{member}
 use Rattle.covering.proofs.floor.use_columns.Given as goal
 
 abbrev pub invariant-loop-c : goal.invariant-loop-c

@@ -1,6 +1,6 @@
 use Rattle.std.proofs.Common.{true, false}
 use Rattle.charts.specs.Best.{problem}
-use Rattle.charts.specs.Sets.{member}
+use Rattle.fixed.specs.Sets.{member}
 use Rattle.reductions.specs.Trails.{taken, banned}
 use Rattle.covering.proofs.Cuts.{cut, lost, tested}
 use Rattle.covering.proofs.looking.look.Goals as goal

@@ -1,5 +1,6 @@
 use Rattle.std.proofs.Common.{ℕ, ◌<◌}
-use Rattle.charts.specs.Sets.{member, Held}
+use Rattle.fixed.specs.Sets.{member}
+use Rattle.charts.specs.Sets.{Held}
 use Rattle.covering.proofs.searching.covers.Given as goal
 
 abbrev pub invariant-loop-i : goal.invariant-loop-i

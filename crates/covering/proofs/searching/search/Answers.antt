@@ -1,8 +1,9 @@
 use Rattle.std.proofs.Common.{◌≡◌, ℕ, true, false, ◌&&◌, ltb, sym, refl, ap, ◌∙◌, ⊎_elim, arith}
 use Rattle.std.proofs.lemmas.Bool.{cases_Bool}
 use Rattle.charts.specs.Best.{problem, columns, covering}
-use Rattle.charts.specs.Sets.{member, Covers}
-use Rattle.charts.proofs.Membership.{every_member}
+use Rattle.fixed.specs.Sets.{member}
+use Rattle.charts.specs.Sets.{Covers}
+use Rattle.fixed.proofs.Members.{every_member}
 use Rattle.charts.proofs.Listings.{whole_covers, covers_whole, best_set_lem, members_cut, listed_best, total_best, size_best}
 use Rattle.covering.proofs.searching.search.Goals as goal
 
@@ -13,7 +14,7 @@ returns-then-not-covers g c =
     let m = g.C.Chart.grid c.args.chart.now in
     let p = problem (o.meaning me) m in
     let few = (g.met.C.Chart.small c.args.chart.now).few in
-    let all : Covers m (λ _. true) → Covers m (member c.all.result) = λ h i l. let w = h i l in let k = w.1 in (w.0, w.1, every_member c.all.result.on c.all.ensures w.0 (omega arith), w.3) in
+    let all : Covers m (λ _. true) → Covers m (member c.all.result) = λ h i l. let w = h i l in let k = w.1 in (w.0, w.1, every_member 256 c.all.result.on c.all.ensures w.0 (omega arith), w.3) in
     record {
       answered = ⊎_elim
           (λ (e : covering m (columns m) ≡ true). absurd (c.if-not-covers.ensures.lacks refl (all (whole_covers p (o.laws me) e))))

@@ -1,6 +1,7 @@
 use Rattle.std.proofs.Common.{◌≡◌, ◌<◌, true, false, sym, subst, arith}
 use Rattle.charts.specs.Best.{problem}
-use Rattle.charts.specs.Sets.{member, Covers, fine}
+use Rattle.fixed.specs.Sets.{member}
+use Rattle.charts.specs.Sets.{Covers, fine}
 use Rattle.reductions.specs.declared.node.Node.{Node}
 use Rattle.reductions.specs.Trails.{taken, banned}
 use Rattle.covering.specs.Seeking.{Barren}

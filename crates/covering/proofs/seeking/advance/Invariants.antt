@@ -1,5 +1,5 @@
 use Rattle.charts.specs.Best.{problem}
-use Rattle.charts.specs.Sets.{member}
+use Rattle.fixed.specs.Sets.{member}
 use Rattle.reductions.specs.Goals.{turns}
 use Rattle.reductions.specs.Trails.{steps_of}
 use Rattle.covering.specs.Seeking.{Leads}

@@ -1,6 +1,6 @@
 use Rattle.std.proofs.Common.{◌≡◌, ℕ, true, false, sym, refl, subst, inl}
 use Rattle.charts.specs.Best.{problem}
-use Rattle.charts.specs.Sets.{member}
+use Rattle.fixed.specs.Sets.{member}
 use Rattle.charts.proofs.Values.{exceeds_same}
 use Rattle.reductions.specs.declared.node.Node.{Node}
 use Rattle.reductions.specs.Goals.{Good, Somewhere}

@@ -1,8 +1,9 @@
 use Rattle.std.proofs.Common.{◌≡◌, ℕ, false, sym, refl, ap, ◌∙◌, subst, arith}
-use Rattle.charts.specs.declared.columns.ColumnSet.{ColumnSet}
+use Rattle.charts.specs.Sets.{ColumnSet}
 use Rattle.charts.specs.Best.{problem}
-use Rattle.charts.specs.Sets.{member, Covers, cost, size, Least}
-use Rattle.charts.proofs.Membership.{no_member, every_member}
+use Rattle.fixed.specs.Sets.{member}
+use Rattle.charts.specs.Sets.{Covers, cost, size, Least}
+use Rattle.fixed.proofs.Members.{no_member, every_member}
 use Rattle.reductions.specs.declared.node.Node.{Node}
 use Rattle.reductions.specs.Trails.{taken, banned}
 use Rattle.covering.proofs.Walking.{Chasing, chasing_start, chasing_done, chasing_on, chasing_last, chasing_less}
@@ -17,7 +18,7 @@ loop-trail-init g c =
     let few = (g.met.C.Chart.small c.args.chart.now).few in
     let v = c.value_of-best in
     let e = sym v.ensures.set in (
-      subst (λ (x : ColumnSet). Covers m (member x)) e (λ i l. let w = c.requires i l in let k = w.1 in (w.0, w.1, every_member c.all.result.on c.all.ensures w.0 (omega arith), w.3)),
+      subst (λ (x : ColumnSet). Covers m (member x)) e (λ i l. let w = c.requires i l in let k = w.1 in (w.0, w.1, every_member 256 c.all.result.on c.all.ensures w.0 (omega arith), w.3)),
       record {
         total = subst (λ (x : ColumnSet). o.exact me v.result.total ≡ cost p (member x)) e v.ensures.total;
         size = subst (λ (x : ColumnSet). v.result.size ≡ size m (member x)) e v.ensures.size;
@@ -35,8 +36,8 @@ returns-then-not-advance g c =
     let inv = c.loop-trail.invariant in
     record {
       least = chasing_done p (o.laws me) root (member c.loop-trail.best.set) c.loop-trail.trail inv.2
-          (subst (λ (n : Node). (k : ℕ) → taken n k ≡ false) r (no_member c.none.result.on c.none.ensures))
-          (subst (λ (n : Node). (k : ℕ) → banned n k ≡ false) r (no_member c.none-2.result.on c.none-2.ensures))
+          (subst (λ (n : Node). (k : ℕ) → taken n k ≡ false) r (no_member 256 c.none.result.on c.none.ensures))
+          (subst (λ (n : Node). (k : ℕ) → banned n k ≡ false) r (no_member 256 c.none-2.result.on c.none-2.ensures))
           inv.0 c.if-not-advance.ensures;
       value = inv.1;
     }
@@ -58,8 +59,8 @@ returns-then-not-back_up g c =
     record {
       least = subst (λ (x : ColumnSet). Least p (member x)) f
           (chasing_last p (o.laws me) root (member c.loop-trail.best.set) c.loop-trail.trail w inv.2 ended.0 ended.2
-          (subst (λ (n : Node). (k : ℕ) → taken n k ≡ false) r (no_member c.none.result.on c.none.ensures))
-          (subst (λ (n : Node). (k : ℕ) → banned n k ≡ false) r (no_member c.none-2.result.on c.none-2.ensures))
+          (subst (λ (n : Node). (k : ℕ) → taken n k ≡ false) r (no_member 256 c.none.result.on c.none.ensures))
+          (subst (λ (n : Node). (k : ℕ) → banned n k ≡ false) r (no_member 256 c.none-2.result.on c.none-2.ensures))
           ended.1 (sym c.if-not-back_up.ensures.owed));
       value = record {
         total = subst (λ (x : ColumnSet). o.exact me v.result.total ≡ cost p (member x)) e v.ensures.total;
