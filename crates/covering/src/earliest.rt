@@ -34,6 +34,7 @@ pub(crate) fn earliest<O: CostOrder, C: Chart>(
     ensures first { FirstBest (problem (O.CostOrder.meaning order.now) (C.Chart.grid chart.now)) (member result.set) }
     ensures value { Priced (problem (O.CostOrder.meaning order.now) (C.Chart.grid chart.now)) (O.CostOrder.exact order.now result.total) result.size (member result.set) }
 {
+    // A loop: each turn may change the set that the next one asks about.
     let mut best = *good;
     for j in 0..chart.columns() {
         if best.set.contains(j) {

@@ -55,6 +55,7 @@ fn use_columns<C: Chart>(chart: &C, left_out: &ColumnSet, need: usize, used: &mu
     ensures marks { (c : ℕ) → c < (C.Chart.grid chart.now).width → (C.Chart.grid chart.now).held c need ≡ true → member left_out.now c ≡ false → member used.new c ≡ true }
     ensures keeps { (c : ℕ) → member used.old c ≡ true → member used.new c ≡ true }
 {
+    // A loop: each turn changes the set.
     for column in 0..chart.columns() {
         if is_left(chart, left_out, need, column) {
             used.insert(column);
@@ -68,6 +69,7 @@ impl<O: CostOrder, C: Chart> Quest<'_, O, C> {
         requires { Priced (problem (O.CostOrder.meaning self.now.order.now) (C.Chart.grid self.now.chart.now)) (O.CostOrder.exact self.now.order.now here.now.total) here.now.size (taken node.now) }
         ensures { result ≡ true → Barren (problem (O.CostOrder.meaning self.now.order.now) (C.Chart.grid self.now.chart.now)) self.now.strict (member self.now.bound.set) node.now }
     {
+        // A loop: each turn changes the total and the set that the next one reads.
         let mut low = *here;
         let mut used = ColumnSet::none();
         for need in 0..self.chart.needs() {
