@@ -1,4 +1,4 @@
-pub mod Membership
+pub mod Holding
 pub mod Values
 pub mod Parts
 pub mod Listings

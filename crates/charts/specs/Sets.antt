@@ -1,14 +1,15 @@
 -- Sets of columns as tests: what they hold and what they cost.
-use Rattle.std.specs.Prelude.{◌≡◌, ℕ, zero, suc, ◌<◌, Bool, true, false, cond, not, ◌&&◌, ◌||◌, List, [], ◌∷◌, length, filter, ◌==◌, slice_index_or}
-use Rattle.std.specs.List.{range_with_len}
+use Rattle.std.specs.Prelude.{◌≡◌, ℕ, zero, suc, ◌<◌, Bool, true, false, cond, not, ◌&&◌, ◌||◌, List, [], ◌∷◌, length, filter, ◌==◌}
+use Rattle.std.specs.List.{list_any, range_with_len}
 use Rattle.orders.specs.Orders.{Meaning}
 use Rattle.charts.specs.Grids.{Grid}
-use Rattle.charts.specs.Best.{Problem, beats, total_of}
-use Rattle.charts.specs.declared.columns.ColumnSet.{ColumnSet}
+use Rattle.charts.specs.Best.{Problem, columns, beats, total_of}
+use Rattle.fixed.specs.declared.set.FixedSet.{FixedSet}
+use Rattle.fixed.specs.Sets.{member}
 
--- whether a set has a column
-abbrev pub member : ColumnSet → ℕ → Bool
-member s k = slice_index_or s.on k false
+-- a set of columns: a chart has at most 256
+abbrev pub ColumnSet : Type 0
+ColumnSet = FixedSet 256
 
 -- the members below n, in order
 unfoldable pub members_below : ℕ → (ℕ → Bool) → List ℕ
@@ -43,9 +44,19 @@ passes m false a x b y = not (beats m b y a x)
 abbrev pub fine : Problem → Bool → (ℕ → Bool) → (ℕ → Bool) → Bool
 fine p strict b s = passes p.order strict (cost p s) (size p.grid s) (cost p b) (size p.grid b)
 
+-- whether one of the members holds a need
+abbrev pub is_held : Grid → (ℕ → Bool) → ℕ → Bool
+is_held g s i = list_any (λ c. g.held c i) (filter s (columns g))
+
 -- one of the members holds a need
 abbrev pub Held : Grid → (ℕ → Bool) → ℕ → Type 0
 Held g s i = (c : ℕ) × (c < g.width) × (s c ≡ true) × (g.held c i ≡ true)
+
+-- a need that is held is held by a member, and one that is not by none
+abbrev pub HeldTells : Type 0
+HeldTells =
+    (g : Grid) (s : ℕ → Bool) (i : ℕ)
+    → (is_held g s i ≡ true → Held g s i) × (is_held g s i ≡ false → (c : ℕ) → c < g.width → s c ≡ true → g.held c i ≡ false)
 
 -- the members hold every need
 abbrev pub Covers : Grid → (ℕ → Bool) → Type 0

@@ -3,13 +3,15 @@ ghost use Rattle.std.specs.Prelude.{◌≡◌, ◌≤◌, List, length};
 ghost use Rattle.terms.specs.declared.term.Term.{Term};
 ghost use Rattle.orders.specs.Orders.{total};
 ghost use Rattle.charts.specs.Best.{problem, beats};
-ghost use Rattle.charts.specs.Sets.{member, cost, size, passes};
+ghost use Rattle.fixed.specs.Sets.{member};
+ghost use Rattle.charts.specs.Sets.{cost, size, passes};
 
 use crate::chart::Chart;
 use crate::columns::ColumnSet;
 use orders::CostOrder;
 
-// A set with its total and its number of columns.
+// A set with its total and its number of columns. Functions take the order and the chart as two parameters: a struct of the
+// two references would make each clause say `self.now.order.now` and `self.now.chart.now`.
 #[derive(Clone, Copy)]
 pub struct Valued<T> {
     pub total: T,
@@ -23,6 +25,7 @@ pub fn value_of<O: CostOrder, C: Chart>(order: &O, chart: &C, set: &ColumnSet) -
     ensures size { result.size ≡ size (C.Chart.grid chart.now) (member set.now) }
     ensures set { result.set ≡ set.now }
 {
+    // A loop: a total is pinned only through the exact one, which the contract of a fold's closure cannot say.
     let mut total = order.empty();
     let mut size = 0;
     for k in 0..chart.columns() {
@@ -53,7 +56,8 @@ pub fn is_better<O: CostOrder>(order: &O, a: O::Total, x: usize, b: O::Total, y:
     x < y
 }
 
-// Whether `a` is better than `b`, or, unless it is to be strictly so, no worse.
+// Whether `a` is better than `b`, or, unless it is to be strictly so, no worse. Both kinds of asking compare the same two
+// values, so the kind is a flag and no enum around them.
 pub fn is_fine<O: CostOrder>(
     order: &O,
     a: &Valued<O::Total>,

@@ -1,3 +1,5 @@
+pub mod Lefts
+pub mod Picking
 pub mod Cuts
 pub mod Flooring
 pub mod Walking

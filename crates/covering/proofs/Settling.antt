@@ -1,12 +1,12 @@
 -- The earliest of the best covers, column by column: what is asked of each search, and what its answer settles.
-use Rattle.std.proofs.Common.{◌≡◌, ℕ, suc, ◌<◌, Bool, true, false, not, ◌&&◌, ◌||◌, eqb, sym, refl, ap, ◌∙◌, subst, ⊎_elim, arith}
-use Rattle.std.proofs.lemmas.Bool.{cases_Bool, cases_eq, cases_order, both_ways, eq-eqb, ne_eqb, not-true, not_from_false, not_from_true, or_left}
+use Rattle.std.proofs.Common.{◌≡◌, ℕ, suc, ◌<◌, Bool, true, false, not, ◌&&◌, ◌||◌, nat_eq, nat_lt, ◌≤◌, inl, inr, sym, refl, ap, ◌∙◌, subst, ⊎_elim, arith}
+use Rattle.std.proofs.lemmas.Bool.{cases_Bool, cases_eq, cases_order, both_ways, eq-eqb, ne_eqb, not-true, not_from_false, not_from_true, cases_lt, lt-ltb, le-ltb}
 use Rattle.orders.specs.Orders.{Laws}
 use Rattle.charts.specs.Best.{Problem}
 use Rattle.charts.specs.Sets.{exceeds, Covers, Least, Settled}
 use Rattle.charts.proofs.Values.{exceeds_weak}
 use Rattle.reductions.specs.Goals.{Good}
-use Rattle.covering.specs.Splitting.{Splits, Asks}
+use Rattle.covering.specs.Splitting.{Asks}
 
 module _ (p : Problem) (laws : Laws p.order) where
   pub settled_none : (s : ℕ → Bool) → Settled p s 0
@@ -31,50 +31,29 @@ module _ (p : Problem) (laws : Laws p.order) where
   pub least_swap : (s e : ℕ → Bool) → Least p s → Covers p.grid e → exceeds p s e ≡ false → Least p e
   least_swap s e h c no-worse = record { covers = c; least = λ d k. exceeds_weak p laws d s e (h.least d k) no-worse }
 
-unmarked : (x y : Bool) (e z : Bool) → e ≡ false → ((x && e) || z) ≡ z
-unmarked x y e z h = ap (λ (v : Bool). (x && v) || z) h ∙ flat x z
-  where
-    flat : (x z : Bool) → ((x && false) || z) ≡ z
-    flat true z = refl
-    flat false z = refl
-
-marked : (x e z : Bool) → e ≡ true → z ≡ false → ((x && e) || z) ≡ x
-marked x e z h k = ap (λ (v : Bool). (x && v) || z) h ∙ ap (λ (v : Bool). (x && true) || v) k ∙ flat x
-  where
-    flat : (x : Bool) → ((x && true) || false) ≡ x
-    flat true = refl
-    flat false = refl
-
-pub splits_none : (s u v : ℕ → Bool) → ((k : ℕ) → (u k ≡ false) × (v k ≡ false)) → Splits s u v 0
-splits_none s u v h = record { below = λ k l. absurd (omega arith); above = λ k l. h k }
-
-pub splits_more : (s u v u' v' : ℕ → Bool) (j : ℕ) → Splits s u v j → ((k : ℕ) → u' k ≡ ((s j && eqb j k) || u k)) → ((k : ℕ) → v' k ≡ ((not (s j) && eqb j k) || v k)) → Splits s u' v' (suc j)
-splits_more s u v u' v' j h eu ev =
+-- the sets that ask, told by tests below their bound
+pub asks_by : (n : ℕ) (s u v : ℕ → Bool) (j : ℕ) → j < n
+    → ((k : ℕ) → k < n → u k ≡ (nat_eq k j || (nat_lt k j && s k))) → ((k : ℕ) → k < n → v k ≡ (nat_lt k j && not (s k)))
+    → ((k : ℕ) → n ≤ k → (u k ≡ false) × (v k ≡ false)) → Asks s u v j
+asks_by n s u v j lj has lacks past =
     record {
-      below = λ k l. ⊎_elim
-          (λ (q : k ≡ j).
-          let same : eqb j k ≡ true = eq-eqb j k (sym q) in
-          let free = h.above k (omega arith) in (
-            eu k ∙ marked (s j) (eqb j k) (u k) same free.0 ∙ ap s (sym q),
-            ev k ∙ marked (not (s j)) (eqb j k) (v k) same free.1 ∙ ap (λ (i : ℕ). not (s i)) (sym q),
-          ))
-          (λ (q : k ≡ j → ⊥).
-          let other : eqb j k ≡ false = ne_eqb j k (λ e. q (sym e)) in
-          let old = h.below k (omega arith) in
-          (eu k ∙ unmarked (s j) (s j) (eqb j k) (u k) other ∙ old.0, ev k ∙ unmarked (not (s j)) (s j) (eqb j k) (v k) other ∙ old.1))
-          (cases_eq k j);
-      above = λ k l.
-          let other : eqb j k ≡ false = ne_eqb j k (λ e. omega arith) in
-          let old = h.above k (omega arith) in
-          (eu k ∙ unmarked (s j) (s j) (eqb j k) (u k) other ∙ old.0, ev k ∙ unmarked (not (s j)) (s j) (eqb j k) (v k) other ∙ old.1);
-    }
-
-pub asks_from : (s u v u' v' : ℕ → Bool) (j : ℕ) → Splits s u v j → ((k : ℕ) → u' k ≡ ((true && eqb j k) || u k)) → ((k : ℕ) → v' k ≡ ((not true && eqb j k) || v k)) → Asks s u' v' j
-asks_from s u v u' v' j h eu ev =
-    record {
-      below = λ k l. let old = h.below k l in (eu k ∙ unmarked true true (eqb j k) (u k) (ne_eqb j k (λ e. omega arith)) ∙ old.0, ev k ∙ old.1);
-      at = (eu j ∙ or_left _ _ (eq-eqb j j refl), ev j ∙ (h.above j (omega arith)).1);
-      above = λ k l. let old = h.above k (omega arith) in (eu k ∙ unmarked true true (eqb j k) (u k) (ne_eqb j k (λ e. omega arith)) ∙ old.0, ev k ∙ old.1);
+      below = λ k l.
+          let a : nat_eq k j ≡ false = ne_eqb k j (λ e. omega arith) in
+          let b : nat_lt k j ≡ true = lt-ltb k j l in (
+            has k (omega arith) ∙ ap (λ (x : Bool). x || (nat_lt k j && s k)) a ∙ ap (λ (x : Bool). x && s k) b,
+            lacks k (omega arith) ∙ ap (λ (x : Bool). x && not (s k)) b,
+          );
+      at = (
+        has j lj ∙ ap (λ (x : Bool). x || (nat_lt j j && s j)) (eq-eqb j j refl),
+        lacks j lj ∙ ap (λ (x : Bool). x && not (s j)) (le-ltb j j (omega arith)),
+      );
+      above = λ k l. elim (cases_lt k n) [
+        | inl low ↦ (
+          has k low ∙ ap (λ (x : Bool). x || (nat_lt k j && s k)) (ne_eqb k j (λ e. omega arith)) ∙ ap (λ (x : Bool). x && s k) (le-ltb k j (omega arith)),
+          lacks k low ∙ ap (λ (x : Bool). x && not (s k)) (le-ltb k j (omega arith)),
+        )
+        | inr high ↦ past k high
+      ];
     }
 
 pub asks_apart : (s u v : ℕ → Bool) (j k : ℕ) → Asks s u v j → u k ≡ true → v k ≡ false

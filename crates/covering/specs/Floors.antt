@@ -1,5 +1,5 @@
 -- What a good set costs at least: needs that share no column.
-use Rattle.std.specs.Prelude.{◌≡◌, ℕ, ◌<◌, ◌≤◌, Bool, true, false, ◌⊎◌, List, length}
+use Rattle.std.specs.Prelude.{◌≡◌, ℕ, ◌<◌, ◌≤◌, Bool, true, false, not, ◌&&◌, ◌⊎◌, if◌then◌else◌, List, length}
 use Rattle.terms.specs.declared.term.Term.{Term}
 use Rattle.orders.specs.Orders.{total}
 use Rattle.charts.specs.Grids.{Grid}
@@ -21,6 +21,14 @@ pub record Floor (p : Problem) (strict : Bool) (bound t b used : ℕ → Bool) (
   pub sum : x ≡ total p.order ts
   pub count : length ts ≡ n
   pub under : (d : ℕ → Bool) → Good p strict bound t b d → Under p t used x n d
+
+-- the column is neither taken nor used
+abbrev pub is_unused : (ℕ → Bool) → (ℕ → Bool) → ℕ → Bool
+is_unused t used c = not (t c) && not (used c)
+
+-- the cheaper of two columns; the first where they cost the same
+abbrev pub cheaper : Problem → ℕ → ℕ → ℕ
+cheaper p a b = if p.order.at_most (p.order.price (p.grid.term a)) (p.order.price (p.grid.term b)) then a else b
 
 -- no column that is left for the need is taken or used
 abbrev pub Apart : Grid → (ℕ → Bool) → (ℕ → Bool) → (ℕ → Bool) → ℕ → Type 0

@@ -1,3 +1,4 @@
+pub mod Priced
 pub mod Seeking
 pub mod Floors
 pub mod Splitting

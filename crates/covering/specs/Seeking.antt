@@ -1,18 +1,18 @@
 -- What one look at a node says, and what a search keeps on its way.
-use Rattle.std.specs.Prelude.{◌≡◌, ℕ, ◌<◌, ◌≤◌, Bool, true, false}
+use Rattle.std.specs.Prelude.{◌≡◌, ℕ, ◌<◌, ◌≤◌, Bool, true, false, not, ◌&&◌, Option, Some, None}
+use Rattle.charts.specs.Grids.{Grid}
 use Rattle.charts.specs.Best.{Problem}
-use Rattle.charts.specs.Sets.{cost, size, fine, exceeds, Covers}
+use Rattle.charts.specs.Sets.{ColumnSet, fine, exceeds, Covers}
 use Rattle.reductions.specs.declared.node.Node.{Node}
 use Rattle.reductions.specs.declared.trail.Trail.{Trail}
 use Rattle.reductions.specs.Goals.{Good, Somewhere, turns}
 use Rattle.reductions.specs.Trails.{steps_of, taken, banned}
-use Rattle.covering.specs.declared.looking.Turn.{Turn}
-use Rattle.covering.specs.declared.looking.Turn.TheVariants.{Found, Dead, Take}
+use Rattle.covering.specs.declared.turn.Turn.{Turn}
+use Rattle.covering.specs.declared.turn.Turn.TheVariants.{Found, Dead, Take}
 
--- a total and a number of columns are those of the set s
-pub record Priced (p : Problem) (x : p.order.Total) (n : ℕ) (s : ℕ → Bool) : Type 0 where
-  pub total : x ≡ cost p s
-  pub size : n ≡ size p.grid s
+-- the column holds the need and is not left out
+abbrev pub is_left : Grid → (ℕ → Bool) → ℕ → ℕ → Bool
+is_left g b i c = not (b c) && g.held c i
 
 -- the node has no set that is good for the bound
 abbrev pub Barren : Problem → Bool → (ℕ → Bool) → Node → Type 0
@@ -36,7 +36,7 @@ abbrev pub Exhausted : Problem → Bool → (ℕ → Bool) → Trail → Type 0
 Exhausted p strict bound s =
     (low : ℕ → Bool) → exceeds p bound low ≡ false → Somewhere p strict low (taken s.root) (banned s.root) (steps_of s) → ⊥
 
--- how a search ended: at a node whose taken columns are good, or with nothing left
-abbrev pub Ended : Problem → Bool → (ℕ → Bool) → Trail → Trail → Bool → Type 0
-Ended p strict bound s s' true = Leads p strict bound s s' × Covers p.grid (taken s'.node) × (fine p strict bound (taken s'.node) ≡ true)
-Ended p strict bound s s' false = Exhausted p strict bound s
+-- how a search ended: at a node whose taken columns are good, which are given, or with nothing left
+abbrev pub Ended : Problem → Bool → (ℕ → Bool) → Trail → Trail → Option ColumnSet → Type 0
+Ended p strict bound s s' (Some c) = Leads p strict bound s s' × Covers p.grid (taken s'.node) × (fine p strict bound (taken s'.node) ≡ true) × (c ≡ s'.node.taken)
+Ended p strict bound s s' None = Exhausted p strict bound s

@@ -1,73 +1,61 @@
 // Which need to settle next, and by which column.
-ghost use Rattle.std.specs.Prelude.{◌≡◌, ℕ, ◌<◌, ◌≤◌, true, false, MatchOption};
-ghost use Rattle.charts.specs.Sets.{Covers};
+ghost use Rattle.std.specs.Prelude.{◌≡◌, ℕ, ◌<◌, ◌≤◌, true, false, not, ◌&&◌, [], filter, length, IfSome, IsNone};
+ghost use Rattle.std.specs.List.{range_with_len};
+ghost use Rattle.fixed.specs.Sets.{member};
+ghost use Rattle.charts.specs.Best.{columns};
+ghost use Rattle.charts.specs.Sets.{is_held, Covers};
 ghost use Rattle.reductions.specs.Trails.{taken, banned};
+ghost use Rattle.covering.specs.Seeking.{is_left};
 
 use charts::{Chart, ColumnSet};
 use reductions::{NeedSet, Node, held_by, open_needs};
+use std::cmp::Reverse;
 
-// How many columns hold the need and are not banned.
-fn count_left<C: Chart>(chart: &C, left_out: &ColumnSet, need: usize) -> usize {
-    let mut count = 0usize;
-    for c in 0..chart.columns() {
-        if !left_out.contains(c) && chart.holds(c, need) {
-            count += 1;
-        }
-    }
-    count
+// Whether the column holds the need and is not left out.
+pub(crate) fn is_left<C: Chart>(chart: &C, left_out: &ColumnSet, need: usize, column: usize) -> bool
+    ensures { result ≡ is_left (C.Chart.grid chart.now) (member left_out.now) need column }
+{
+    !left_out.contains(column) && chart.holds(column, need)
+}
+
+// How many columns are left for the need.
+fn count_left<C: Chart>(chart: &C, left_out: &ColumnSet, need: usize) -> usize
+    ensures { result ≡ length (filter (is_left (C.Chart.grid chart.now) (member left_out.now) need) (columns (C.Chart.grid chart.now))) }
+{
+    (0..chart.columns())
+        .filter(|column| is_left(chart, left_out, need, *column))
+        .count()
 }
 
 // Of the needs that no taken column holds, one with the fewest columns left; none where each is held.
 pub(crate) fn hardest_need<C: Chart>(chart: &C, node: &Node) -> Option<usize>
-    ensures { MatchOption result (Covers (C.Chart.grid chart.now) (taken node.now)) (λ i. (i < (C.Chart.grid chart.now).wanted) × ((c : ℕ) → c < (C.Chart.grid chart.now).width → taken node.now c ≡ true → (C.Chart.grid chart.now).held c i ≡ false)) }
+    ensures there { IfSome result (λ i. i < (C.Chart.grid chart.now).wanted) }
+    ensures unheld { IfSome result (λ i. is_held (C.Chart.grid chart.now) (taken node.now) i ≡ false) }
+    ensures none { IsNone result → length (filter (λ i. not (is_held (C.Chart.grid chart.now) (taken node.now) i)) (range_with_len 0 (C.Chart.grid chart.now).wanted)) ≡ 0 }
 {
-    let mut hardest = None;
-    let mut fewest = 0;
-    for i in 0..chart.needs() {
-        if held_by(chart, &node.taken, i) {
-            continue;
-        }
-        let left = count_left(chart, &node.banned, i);
-        if hardest.is_some() && fewest <= left {
-            continue;
-        }
-        hardest = Some(i);
-        fewest = left;
-    }
-    hardest
+    (0..chart.needs())
+        .filter(|need| !held_by(chart, &node.taken, *need))
+        .min_by_key(|need| count_left(chart, &node.banned, *need))
 }
 
 // How many of the needs the column holds.
-fn count_held<C: Chart>(chart: &C, needs: &NeedSet, column: usize) -> usize {
-    let mut count = 0usize;
-    for i in 0..chart.needs() {
-        if needs.contains(i) && chart.holds(column, i) {
-            count += 1;
-        }
-    }
-    count
+fn count_held<C: Chart>(chart: &C, needs: &NeedSet, column: usize) -> usize
+    ensures { result ≡ length (filter (λ i. (C.Chart.grid chart.now).held column i) (filter (member needs.now) (range_with_len 0 (C.Chart.grid chart.now).wanted))) }
+{
+    (0..chart.needs())
+        .filter(|need| needs.contains(*need))
+        .filter(|need| chart.holds(column, *need))
+        .count()
 }
 
-// Of the columns that hold the need and are not banned, one that holds the most open needs.
+// Of the columns that are left for the need, one that holds the most open needs.
 pub(crate) fn widest_column<C: Chart>(chart: &C, node: &Node, need: usize) -> Option<usize>
-    ensures { MatchOption result ((c : ℕ) → c < (C.Chart.grid chart.now).width → (C.Chart.grid chart.now).held c need ≡ true → banned node.now c ≡ true) (λ c. (c < (C.Chart.grid chart.now).width) × (banned node.now c ≡ false) × ((C.Chart.grid chart.now).held c need ≡ true)) }
+    ensures there { IfSome result (λ c. c < (C.Chart.grid chart.now).width) }
+    ensures left { IfSome result (λ c. is_left (C.Chart.grid chart.now) (banned node.now) need c ≡ true) }
+    ensures none { IsNone result → length (filter (is_left (C.Chart.grid chart.now) (banned node.now) need) (columns (C.Chart.grid chart.now))) ≡ 0 }
 {
     let needs = open_needs(chart, &node.taken);
-    let mut widest = None;
-    let mut most = 0;
-    for c in 0..chart.columns() {
-        if node.banned.contains(c) {
-            continue;
-        }
-        if !chart.holds(c, need) {
-            continue;
-        }
-        let count = count_held(chart, &needs, c);
-        if widest.is_some() && count <= most {
-            continue;
-        }
-        widest = Some(c);
-        most = count;
-    }
-    widest
+    (0..chart.columns())
+        .filter(|column| is_left(chart, &node.banned, need, *column))
+        .min_by_key(|column| Reverse(count_held(chart, &needs, *column)))
 }

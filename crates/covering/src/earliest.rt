@@ -1,12 +1,13 @@
 // Of the best covers the earliest, column by column.
 ghost use Rattle.std.specs.Prelude.{◌<◌};
 ghost use Rattle.charts.specs.Best.{problem};
-ghost use Rattle.charts.specs.Sets.{member, Least, FirstBest};
+ghost use Rattle.fixed.specs.Sets.{member};
+ghost use Rattle.charts.specs.Sets.{Least, FirstBest};
 ghost use Rattle.reductions.specs.Trails.{taken, banned};
-ghost use Rattle.covering.specs.Seeking.{Priced};
+ghost use Rattle.covering.specs.Priced.{Priced};
 ghost use Rattle.covering.specs.Splitting.{Asks};
 
-use crate::seeking::find;
+use crate::quest::Quest;
 use charts::{Chart, ColumnSet, Valued, value_of};
 use orders::CostOrder;
 use reductions::Node;
@@ -16,15 +17,10 @@ fn split(set: &ColumnSet, j: usize) -> Node
     requires { j < 256 }
     ensures { Asks (member set.now) (taken result) (banned result) j }
 {
-    let mut node = Node {
-        taken: ColumnSet::none(),
-        banned: ColumnSet::none(),
-    };
-    for k in 0..j {
-        node.mark(k, set.contains(k));
+    Node {
+        taken: ColumnSet::from_fn(|k| k == j || k < j && set.contains(k)),
+        banned: ColumnSet::from_fn(|k| k < j && !set.contains(k)),
     }
-    node.mark(j, true);
-    node
 }
 
 // The earliest set that is as good as one than which none is better: a column is kept when a set as good has it and the same before it.
@@ -38,13 +34,19 @@ pub(crate) fn earliest<O: CostOrder, C: Chart>(
     ensures first { FirstBest (problem (O.CostOrder.meaning order.now) (C.Chart.grid chart.now)) (member result.set) }
     ensures value { Priced (problem (O.CostOrder.meaning order.now) (C.Chart.grid chart.now)) (O.CostOrder.exact order.now result.total) result.size (member result.set) }
 {
+    // A loop: each turn may change the set that the next one asks about.
     let mut best = *good;
     for j in 0..chart.columns() {
         if best.set.contains(j) {
             continue;
         }
-        let node = split(&best.set, j);
-        let Some(set) = find(order, chart, &node, &best, false) else {
+        let quest = Quest {
+            order,
+            chart,
+            bound: best,
+            strict: false,
+        };
+        let Some(set) = quest.find(&split(&best.set, j)) else {
             continue;
         };
         best = value_of(order, chart, &set);

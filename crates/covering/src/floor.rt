@@ -1,105 +1,92 @@
 // What a set costs at least: needs that share no column want a column each.
-ghost use Rattle.std.specs.Prelude.{◌≡◌, ℕ, ◌<◌, ◌≤◌, true, false, IfSome};
-ghost use Rattle.charts.specs.Best.{problem};
-ghost use Rattle.charts.specs.Sets.{member};
+ghost use Rattle.std.specs.Prelude.{◌≡◌, ℕ, ◌<◌, ◌≤◌, true, false, not, ◌&&◌, filter, if◌then◌else◌, IfSome};
+ghost use Rattle.std.specs.List.{list_all, reduce};
+ghost use Rattle.fixed.specs.Sets.{member};
+ghost use Rattle.charts.specs.Best.{problem, columns};
 ghost use Rattle.reductions.specs.Trails.{taken, banned};
-ghost use Rattle.covering.specs.Floors.{Apart, Cheapest};
-ghost use Rattle.covering.specs.Seeking.{Priced, Barren};
+ghost use Rattle.covering.specs.Floors.{is_unused, cheaper};
+ghost use Rattle.covering.specs.Priced.{Priced};
+ghost use Rattle.covering.specs.Seeking.{is_left, Barren};
 
+use crate::choosing::is_left;
+use crate::quest::Quest;
 use charts::{Chart, ColumnSet, Valued, is_fine, no_dearer};
 use orders::CostOrder;
 use reductions::Node;
 
-// Whether no column that holds the need, and is not banned, is taken or used.
-fn is_apart<C: Chart>(chart: &C, node: &Node, used: &ColumnSet, need: usize) -> bool
-    ensures { result ≡ true → Apart (C.Chart.grid chart.now) (taken node.now) (banned node.now) (member used.now) need }
+// Whether the column is neither taken nor used.
+fn is_unused(node: &Node, used: &ColumnSet, column: usize) -> bool
+    ensures { result ≡ is_unused (taken node.now) (member used.now) column }
 {
-    for c in 0..chart.columns() {
-        if node.banned.contains(c) {
-            continue;
-        }
-        if !node.taken.contains(c) && !used.contains(c) {
-            continue;
-        }
-        if chart.holds(c, need) {
-            return false;
-        }
-    }
-    true
+    !node.taken.contains(column) && !used.contains(column)
 }
 
-// The cheapest column that holds the need and is not banned.
+// Whether no column that is left for the need is taken or used.
+fn is_apart<C: Chart>(chart: &C, node: &Node, used: &ColumnSet, need: usize) -> bool
+    ensures { result ≡ list_all (is_unused (taken node.now) (member used.now)) (filter (is_left (C.Chart.grid chart.now) (banned node.now) need) (columns (C.Chart.grid chart.now))) }
+{
+    (0..chart.columns())
+        .filter(|column| is_left(chart, &node.banned, need, *column))
+        .all(|column| is_unused(node, used, column))
+}
+
+// The cheaper of two columns; the first where they cost the same.
+fn cheaper<O: CostOrder, C: Chart>(order: &O, chart: &C, a: usize, b: usize) -> usize
+    ensures { result ≡ cheaper (problem (O.CostOrder.meaning order.now) (C.Chart.grid chart.now)) a b }
+{
+    if no_dearer(order, chart, a, b) { a } else { b }
+}
+
+// The cheapest column that is left for the need.
 fn cheapest<O: CostOrder, C: Chart>(
     order: &O,
     chart: &C,
     left_out: &ColumnSet,
     need: usize,
 ) -> Option<usize>
-    ensures { IfSome result (λ c. Cheapest (problem (O.CostOrder.meaning order.now) (C.Chart.grid chart.now)) (member left_out.now) need c) }
+    ensures { result ≡ reduce (cheaper (problem (O.CostOrder.meaning order.now) (C.Chart.grid chart.now))) (filter (is_left (C.Chart.grid chart.now) (member left_out.now) need) (columns (C.Chart.grid chart.now))) }
 {
-    let mut best = None;
-    for c in 0..chart.columns() {
-        if left_out.contains(c) {
-            continue;
-        }
-        if !chart.holds(c, need) {
-            continue;
-        }
-        if let Some(b) = best
-            && no_dearer(order, chart, b, c)
-        {
-            continue;
-        }
-        best = Some(c);
-    }
-    best
+    (0..chart.columns())
+        .filter(|column| is_left(chart, left_out, need, *column))
+        .reduce(|best, column| cheaper(order, chart, best, column))
 }
-
-// Marks the columns that hold the need and are not banned as used.
+// Marks the columns that are left for the need as used.
 fn use_columns<C: Chart>(chart: &C, left_out: &ColumnSet, need: usize, used: &mut ColumnSet)
     ensures marks { (c : ℕ) → c < (C.Chart.grid chart.now).width → (C.Chart.grid chart.now).held c need ≡ true → member left_out.now c ≡ false → member used.new c ≡ true }
     ensures keeps { (c : ℕ) → member used.old c ≡ true → member used.new c ≡ true }
 {
-    for c in 0..chart.columns() {
-        if left_out.contains(c) {
-            continue;
+    // A loop: each turn changes the set.
+    for column in 0..chart.columns() {
+        if is_left(chart, left_out, need, column) {
+            used.insert(column);
         }
-        if !chart.holds(c, need) {
-            continue;
-        }
-        used.insert(c);
     }
 }
 
-// Whether needs without a common column cost so much that no set of the node is good enough. `here` is the value of what is taken.
-pub(crate) fn is_hopeless<O: CostOrder, C: Chart>(
-    order: &O,
-    chart: &C,
-    node: &Node,
-    here: &Valued<O::Total>,
-    bound: &Valued<O::Total>,
-    strict: bool,
-) -> bool
-    requires here { Priced (problem (O.CostOrder.meaning order.now) (C.Chart.grid chart.now)) (O.CostOrder.exact order.now here.now.total) here.now.size (taken node.now) }
-    requires bound { Priced (problem (O.CostOrder.meaning order.now) (C.Chart.grid chart.now)) (O.CostOrder.exact order.now bound.now.total) bound.now.size (member bound.now.set) }
-    ensures { result ≡ true → Barren (problem (O.CostOrder.meaning order.now) (C.Chart.grid chart.now)) strict (member bound.now.set) node.now }
-{
-    let mut low = *here;
-    let mut used = ColumnSet::none();
-    for i in 0..chart.needs() {
-        if low.size >= 256 {
-            continue;
+impl<O: CostOrder, C: Chart> Quest<'_, O, C> {
+    // Whether needs without a common column cost so much that no set of the node is good enough. `here` is the value of what is taken.
+    pub(crate) fn is_hopeless(&self, node: &Node, here: &Valued<O::Total>) -> bool
+        requires { Priced (problem (O.CostOrder.meaning self.now.order.now) (C.Chart.grid self.now.chart.now)) (O.CostOrder.exact self.now.order.now here.now.total) here.now.size (taken node.now) }
+        ensures { result ≡ true → Barren (problem (O.CostOrder.meaning self.now.order.now) (C.Chart.grid self.now.chart.now)) self.now.strict (member self.now.bound.set) node.now }
+    {
+        // A loop: each turn changes the total and the set that the next one reads.
+        let mut low = *here;
+        let mut used = ColumnSet::none();
+        for need in 0..self.chart.needs() {
+            if low.size >= 256 {
+                continue;
+            }
+            if !is_apart(self.chart, node, &used, need) {
+                continue;
+            }
+            let Some(column) = cheapest(self.order, self.chart, &node.banned, need) else {
+                continue;
+            };
+            let price = self.chart.price(self.order, column);
+            low.total = self.order.join(price, low.total);
+            low.size += 1;
+            use_columns(self.chart, &node.banned, need, &mut used);
         }
-        if !is_apart(chart, node, &used, i) {
-            continue;
-        }
-        let Some(column) = cheapest(order, chart, &node.banned, i) else {
-            continue;
-        };
-        let price = chart.price(order, column);
-        low.total = order.join(price, low.total);
-        low.size += 1;
-        use_columns(chart, &node.banned, i, &mut used);
+        !is_fine(self.order, &low, &self.bound, self.strict)
     }
-    !is_fine(order, &low, bound, strict)
 }

@@ -4,8 +4,10 @@
 mod choosing;
 mod earliest;
 mod floor;
-pub mod looking;
+mod looking;
+pub mod quest;
 pub mod searching;
 mod seeking;
+pub mod turn;
 
 pub use searching::search;

@@ -1,44 +1,33 @@
 // One look at a node.
+ghost use Rattle.fixed.specs.Sets.{member};
 ghost use Rattle.charts.specs.Best.{problem};
-ghost use Rattle.charts.specs.Sets.{member};
-ghost use Rattle.covering.specs.Seeking.{Priced, Seen};
+ghost use Rattle.covering.specs.Seeking.{Seen};
 
 use crate::choosing::{hardest_need, widest_column};
-use crate::floor::is_hopeless;
-use charts::{Chart, Valued, is_fine, value_of};
+use crate::quest::Quest;
+use crate::turn::Turn;
+use charts::{Chart, is_fine, value_of};
 use orders::CostOrder;
 use reductions::Node;
 
-// What to do at a node.
-pub enum Turn {
-    Found,
-    Dead,
-    Take(usize),
-}
-
-// Looks for sets that are better than the bound, or, unless they are to be strictly so, no worse.
-pub(crate) fn look<O: CostOrder, C: Chart>(
-    order: &O,
-    chart: &C,
-    node: &Node,
-    bound: &Valued<O::Total>,
-    strict: bool,
-) -> Turn
-    requires { Priced (problem (O.CostOrder.meaning order.now) (C.Chart.grid chart.now)) (O.CostOrder.exact order.now bound.now.total) bound.now.size (member bound.now.set) }
-    ensures { Seen (problem (O.CostOrder.meaning order.now) (C.Chart.grid chart.now)) strict (member bound.now.set) node.now result }
-{
-    let here = value_of(order, chart, &node.taken);
-    if !is_fine(order, &here, bound, strict) {
-        return Turn::Dead;
+impl<O: CostOrder, C: Chart> Quest<'_, O, C> {
+    // Looks at the sets of a node.
+    pub(crate) fn look(&self, node: &Node) -> Turn
+        ensures { Seen (problem (O.CostOrder.meaning self.now.order.now) (C.Chart.grid self.now.chart.now)) self.now.strict (member self.now.bound.set) node.now result }
+    {
+        let here = value_of(self.order, self.chart, &node.taken);
+        if !is_fine(self.order, &here, &self.bound, self.strict) {
+            return Turn::Dead;
+        }
+        let Some(need) = hardest_need(self.chart, node) else {
+            return Turn::Found;
+        };
+        let Some(column) = widest_column(self.chart, node, need) else {
+            return Turn::Dead;
+        };
+        if self.is_hopeless(node, &here) {
+            return Turn::Dead;
+        }
+        Turn::Take(column)
     }
-    let Some(need) = hardest_need(chart, node) else {
-        return Turn::Found;
-    };
-    let Some(column) = widest_column(chart, node, need) else {
-        return Turn::Dead;
-    };
-    if is_hopeless(order, chart, node, &here, bound, strict) {
-        return Turn::Dead;
-    }
-    Turn::Take(column)
 }

@@ -1,7 +1,9 @@
 // The search for the best set of columns.
-ghost use Rattle.std.specs.Prelude.{◌≡◌, ℕ, ◌<◌, true, false, length, is_some, IfSome};
+ghost use Rattle.std.specs.Prelude.{◌≡◌, length, is_some, IfSome};
+ghost use Rattle.std.specs.List.{list_all, range_with_len};
 ghost use Rattle.charts.specs.Best.{problem, columns, covering, total_of, best_set, BestSet};
-ghost use Rattle.charts.specs.Sets.{member, columns_in, Covers, Held};
+ghost use Rattle.fixed.specs.Sets.{member};
+ghost use Rattle.charts.specs.Sets.{columns_in, is_held};
 
 use crate::earliest::earliest;
 use crate::seeking::least;
@@ -11,15 +13,9 @@ use reductions::held_by;
 
 // Whether the set holds every need.
 fn covers<C: Chart>(chart: &C, set: &ColumnSet) -> bool
-    ensures holds { result ≡ true → Covers (C.Chart.grid chart.now) (member set.now) }
-    ensures lacks { result ≡ false → Covers (C.Chart.grid chart.now) (member set.now) → ⊥ }
+    ensures { result ≡ list_all (is_held (C.Chart.grid chart.now) (member set.now)) (range_with_len 0 (C.Chart.grid chart.now).wanted) }
 {
-    for i in 0..chart.needs() {
-        if !held_by(chart, set, i) {
-            return false;
-        }
-    }
-    true
+    (0..chart.needs()).all(|need| held_by(chart, set, need))
 }
 
 // The best set of columns: of the sets that cover, the least total; among totals that cost the same, the fewest columns; among

@@ -1,62 +1,50 @@
 // The search for a good set: a walk along a trail.
 ghost use Rattle.std.specs.Prelude.{◌≡◌, ℕ, Bool, true, false, MatchOption};
+ghost use Rattle.fixed.specs.Sets.{member};
 ghost use Rattle.charts.specs.Best.{problem};
-ghost use Rattle.charts.specs.Sets.{member, Covers, Least};
+ghost use Rattle.charts.specs.Sets.{Covers, Least};
 ghost use Rattle.reductions.specs.Goals.{Good};
 ghost use Rattle.reductions.specs.Trails.{taken, banned};
-ghost use Rattle.covering.specs.Seeking.{Priced, Ended};
+ghost use Rattle.covering.specs.Priced.{Priced};
+ghost use Rattle.covering.specs.Seeking.{Ended};
 
-use crate::looking::{Turn, look};
+use crate::quest::Quest;
+use crate::turn::Turn;
 use charts::{Chart, ColumnSet, Valued, value_of};
 use orders::CostOrder;
 use reductions::{Node, Trail, reduce};
 
-// Goes on along the trail until the taken columns of its node are a good set, or until nothing is left, which is told.
-fn advance<O: CostOrder, C: Chart>(
-    order: &O,
-    chart: &C,
-    bound: &Valued<O::Total>,
-    strict: bool,
-    trail: &mut Trail,
-) -> bool
-    requires { Priced (problem (O.CostOrder.meaning order.now) (C.Chart.grid chart.now)) (O.CostOrder.exact order.now bound.now.total) bound.now.size (member bound.now.set) }
-    ensures { Ended (problem (O.CostOrder.meaning order.now) (C.Chart.grid chart.now)) strict (member bound.now.set) trail.old trail.new result }
-{
-    loop {
-        reduce(order, chart, trail);
-        match look(order, chart, trail.node(), bound, strict) {
-            Turn::Found => {
-                return true;
-            }
-            Turn::Dead => {
-                if !trail.back_up() {
-                    return false;
+impl<O: CostOrder, C: Chart> Quest<'_, O, C> {
+    // Goes on along the trail until the taken columns of its node are a good set, which it gives, or until nothing is left.
+    fn advance(&self, trail: &mut Trail) -> Option<ColumnSet>
+        ensures { Ended (problem (O.CostOrder.meaning self.now.order.now) (C.Chart.grid self.now.chart.now)) self.now.strict (member self.now.bound.set) trail.old trail.new result }
+    {
+        loop {
+            reduce(self.order, self.chart, trail);
+            match self.look(trail.node()) {
+                Turn::Found => {
+                    return Some(trail.node().taken);
                 }
-            }
-            Turn::Take(column) => {
-                trail.fix(column, true, true);
+                Turn::Dead => {
+                    if !trail.back_up() {
+                        return None;
+                    }
+                }
+                Turn::Take(column) => {
+                    trail.fix(column, true, true);
+                }
             }
         }
     }
-}
 
-// A set that covers, has the root's taken columns, lacks its banned ones, and is better than the bound, or no worse.
-pub(crate) fn find<O: CostOrder, C: Chart>(
-    order: &O,
-    chart: &C,
-    root: &Node,
-    bound: &Valued<O::Total>,
-    strict: bool,
-) -> Option<ColumnSet>
-    requires apart { (k : ℕ) → taken root.now k ≡ true → banned root.now k ≡ false }
-    requires bound { Priced (problem (O.CostOrder.meaning order.now) (C.Chart.grid chart.now)) (O.CostOrder.exact order.now bound.now.total) bound.now.size (member bound.now.set) }
-    ensures { MatchOption result ((d : ℕ → Bool) → Good (problem (O.CostOrder.meaning order.now) (C.Chart.grid chart.now)) strict (member bound.now.set) (taken root.now) (banned root.now) d → ⊥) (λ s. Good (problem (O.CostOrder.meaning order.now) (C.Chart.grid chart.now)) strict (member bound.now.set) (taken root.now) (banned root.now) (member s)) }
-{
-    let mut trail = Trail::new(root);
-    if !advance(order, chart, bound, strict, &mut trail) {
-        return None;
+    // A good set that has the root's taken columns and lacks its banned ones.
+    pub(crate) fn find(&self, root: &Node) -> Option<ColumnSet>
+        requires { (k : ℕ) → taken root.now k ≡ true → banned root.now k ≡ false }
+        ensures { MatchOption result ((d : ℕ → Bool) → Good (problem (O.CostOrder.meaning self.now.order.now) (C.Chart.grid self.now.chart.now)) self.now.strict (member self.now.bound.set) (taken root.now) (banned root.now) d → ⊥) (λ s. Good (problem (O.CostOrder.meaning self.now.order.now) (C.Chart.grid self.now.chart.now)) self.now.strict (member self.now.bound.set) (taken root.now) (banned root.now) (member s)) }
+    {
+        let mut trail = Trail::new(root);
+        self.advance(&mut trail)
     }
-    Some(trail.node().taken)
 }
 
 // A set that covers such that none is better, with its value: each set found is the bound for the next.
@@ -72,10 +60,16 @@ pub(crate) fn least<O: CostOrder, C: Chart>(order: &O, chart: &C) -> Valued<O::T
     let mut trail = Trail::new(&root);
     let mut best = value_of(order, chart, &ColumnSet::all());
     loop {
-        if !advance(order, chart, &best, true, &mut trail) {
+        let quest = Quest {
+            order,
+            chart,
+            bound: best,
+            strict: true,
+        };
+        let Some(set) = quest.advance(&mut trail) else {
             return best;
-        }
-        best = value_of(order, chart, &trail.node().taken);
+        };
+        best = value_of(order, chart, &set);
         if !trail.back_up() {
             return best;
         }

@@ -1,5 +1,6 @@
 // Charts drawn by a simple generator, the same on every run.
 use crate::sample::Sample;
+use std::array;
 use terms::Term;
 
 #[derive(Drop)]
@@ -30,20 +31,12 @@ impl Dice {
 
     // A term for each of ten columns.
     fn terms(&mut self) -> [Term; 10] {
-        let mut terms = [Term { mask: 0, levels: 0 }; 10];
-        for c in 0..10 {
-            terms[c] = self.term();
-        }
-        terms
+        array::from_fn(|_| self.term())
     }
 
     // Which of ten columns hold which of twelve needs: `dense` cells in eight.
     fn cells(&mut self, dense: u32) -> [bool; 120] {
-        let mut cells = [false; 120];
-        for k in 0..120 {
-            cells[k] = self.roll(8) < dense;
-        }
-        cells
+        array::from_fn(|_| self.roll(8) < dense)
     }
 
     // The chart of a number: the denser the higher its remainder by five.

@@ -15,13 +15,13 @@ const CHARTS: usize = 600;
 
 fn main(rt: HostRuntime) -> io::Result<()> {
     let mut dice = Dice::new();
-    let mut by_count = Report::new();
-    let mut by_price = Report::new();
-    let mut by_longest = Report::new();
+    let mut by_count = Report::default();
+    let mut by_price = Report::default();
+    let mut by_longest = Report::default();
     let mut price = Price::new();
     let _ = price.set_prices([3, 0, 1, 2, 3, 1, 0, 2, 1]);
-    for k in 0..CHARTS {
-        let sample = dice.sample(k);
+    for number in 0..CHARTS {
+        let sample = dice.sample(number);
         by_count.add(compare(&Count, &sample));
         by_price.add(compare(&price, &sample));
         by_longest.add(compare(&Longest, &sample));

@@ -3,7 +3,7 @@ use Rattle.std.proofs.Common.{◌≡◌, ℕ, zero, suc, ◌+◌, ◌-◌, ◌<�
 use Rattle.std.proofs.lemmas.Bool.{cases_Bool, cases_eq, or_parts, or_right, or_from, and_from, and_left, and_right, both_ways, and_parts, or_cases, eqb-true, lt-ltb, ltb-true, not-true, not_from_false, false≢true}
 use Rattle.charts.specs.Best.{Problem}
 use Rattle.charts.specs.Sets.{down, put}
-use Rattle.charts.proofs.Membership.{put_in}
+use Rattle.fixed.proofs.Members.{put_in}
 use Rattle.charts.proofs.Values.{down_same, down_short, more_members}
 use Rattle.reductions.specs.declared.step.Step.{Step}
 use Rattle.reductions.specs.Steps.{step, up_to, taken_by, banned_by, is_free, is_fresh, owes, backed}

@@ -1,13 +1,8 @@
 -- Which needs and columns a node can do without.
-use Rattle.std.specs.Prelude.{◌≡◌, ℕ, ◌<◌, Bool, true, false, ◌⊎◌, slice_index_or}
+use Rattle.std.specs.Prelude.{◌≡◌, ℕ, ◌<◌, Bool, true, false, ◌⊎◌}
 use Rattle.charts.specs.Grids.{Grid}
 use Rattle.charts.specs.Best.{Problem}
 use Rattle.charts.specs.Sets.{Held}
-use Rattle.reductions.specs.declared.needs.NeedSet.{NeedSet}
-
--- whether a set of needs has a need
-abbrev pub wants : NeedSet → ℕ → Bool
-wants s i = slice_index_or s.on i false
 
 -- a set of columns that has t, lacks b and holds the needs ns holds all needs
 abbrev pub Enough : Grid → (ℕ → Bool) → (ℕ → Bool) → (ℕ → Bool) → Type 0

@@ -1,6 +1,6 @@
 -- The trail of a search, by its steps.
 use Rattle.std.specs.Prelude.{ℕ, Bool, List}
-use Rattle.charts.specs.Sets.{member}
+use Rattle.fixed.specs.Sets.{member}
 use Rattle.reductions.specs.declared.node.Node.{Node}
 use Rattle.reductions.specs.declared.step.Step.{Step}
 use Rattle.reductions.specs.declared.trail.Trail.{Trail}

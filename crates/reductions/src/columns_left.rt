@@ -1,20 +1,18 @@
 // Which columns hold a need.
 ghost use Rattle.std.specs.Prelude.{◌≡◌, ℕ, ◌<◌, true, false, ◌⊎◌, IfSome};
-ghost use Rattle.charts.specs.Sets.{member, Held};
+ghost use Rattle.fixed.specs.Sets.{member};
+ghost use Rattle.charts.specs.Sets.{is_held, HeldTells};
 
 use charts::{Chart, ColumnSet};
 
 // Whether one of the set's columns holds the need.
 pub fn held_by<C: Chart>(chart: &C, set: &ColumnSet, need: usize) -> bool
-    ensures holds { result ≡ true → Held (C.Chart.grid chart.now) (member set.now) need }
-    ensures lacks { result ≡ false → (c : ℕ) → c < (C.Chart.grid chart.now).width → member set.now c ≡ true → (C.Chart.grid chart.now).held c need ≡ false }
+    ensures value { result ≡ is_held (C.Chart.grid chart.now) (member set.now) need }
+    ensures law { HeldTells }
 {
-    for c in 0..chart.columns() {
-        if set.contains(c) && chart.holds(c, need) {
-            return true;
-        }
-    }
-    false
+    (0..chart.columns())
+        .filter(|column| set.contains(*column))
+        .any(|column| chart.holds(column, need))
 }
 
 // The one column that holds the need and is not banned; none where there is no such column, or more than one.

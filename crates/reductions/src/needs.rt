@@ -1,10 +1,9 @@
 // Sets of needs.
+use fixed::FixedSet;
+
 pub mod methods;
 
 pub use methods::open_needs;
 
 // Some of the needs of a chart, which has at most 1,280.
-#[derive(Clone, Copy)]
-pub struct NeedSet {
-    on: [bool; 1280],
-}
+pub type NeedSet = FixedSet<1280>;

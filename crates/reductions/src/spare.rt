@@ -1,8 +1,8 @@
 // Columns that can be done without.
 ghost use Rattle.std.specs.Prelude.{◌≡◌, ℕ, ◌<◌, true, false, ◌⊎◌};
 ghost use Rattle.charts.specs.Best.{problem};
-ghost use Rattle.charts.specs.Sets.{member};
-ghost use Rattle.reductions.specs.Spares.{wants, Useless, Spare};
+ghost use Rattle.fixed.specs.Sets.{member};
+ghost use Rattle.reductions.specs.Spares.{Useless, Spare};
 
 use crate::needs::NeedSet;
 use charts::{Chart, ColumnSet, no_dearer};
@@ -10,7 +10,7 @@ use orders::CostOrder;
 
 // Whether the column holds none of the needs.
 fn is_useless<C: Chart>(chart: &C, needs: &NeedSet, a: usize) -> bool
-    ensures { result ≡ true → Useless (C.Chart.grid chart.now) (wants needs.now) a }
+    ensures { result ≡ true → Useless (C.Chart.grid chart.now) (member needs.now) a }
 {
     for i in 0..chart.needs() {
         if needs.contains(i) && chart.holds(a, i) {
@@ -22,7 +22,7 @@ fn is_useless<C: Chart>(chart: &C, needs: &NeedSet, a: usize) -> bool
 
 // Whether `b` holds each of the needs that `a` holds.
 fn stands_in<C: Chart>(chart: &C, needs: &NeedSet, a: usize, b: usize) -> bool
-    ensures { result ≡ true → (i : ℕ) → i < (C.Chart.grid chart.now).wanted → (C.Chart.grid chart.now).held a i ≡ true → ((C.Chart.grid chart.now).held b i ≡ true) ⊎ (wants needs.now i ≡ false) }
+    ensures { result ≡ true → (i : ℕ) → i < (C.Chart.grid chart.now).wanted → (C.Chart.grid chart.now).held a i ≡ true → ((C.Chart.grid chart.now).held b i ≡ true) ⊎ (member needs.now i ≡ false) }
 {
     for i in 0..chart.needs() {
         if needs.contains(i) && chart.holds(a, i) && !chart.holds(b, i) {
@@ -40,7 +40,7 @@ pub(crate) fn is_spare<O: CostOrder, C: Chart>(
     needs: &NeedSet,
     a: usize,
 ) -> bool
-    ensures { result ≡ true → Spare (problem (O.CostOrder.meaning order.now) (C.Chart.grid chart.now)) (member left_out.now) (wants needs.now) a }
+    ensures { result ≡ true → Spare (problem (O.CostOrder.meaning order.now) (C.Chart.grid chart.now)) (member left_out.now) (member needs.now) a }
 {
     if is_useless(chart, needs, a) {
         return true;

@@ -1,6 +1,6 @@
 // The trail of a search.
 ghost use Rattle.std.specs.Prelude.{◌≡◌, ℕ, ◌≤◌, true};
-ghost use Rattle.charts.specs.Sets.{member};
+ghost use Rattle.fixed.specs.Sets.{member};
 ghost use Rattle.reductions.specs.Steps.{up_to, taken_by, banned_by, is_fresh};
 
 use crate::node::Node;

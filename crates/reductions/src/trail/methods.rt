@@ -1,6 +1,6 @@
 // Moves of a search along its trail.
 ghost use Rattle.std.specs.Prelude.{◌≡◌, ℕ, ◌<◌, ◌≤◌, true, false, [], ◌∷◌, length, if◌then◌else◌, MatchOption, slice_index_or};
-ghost use Rattle.charts.specs.Sets.{member};
+ghost use Rattle.fixed.specs.Sets.{member};
 ghost use Rattle.reductions.specs.Steps.{step, up_to, taken_by, banned_by, is_free, is_fresh, owes, backed};
 ghost use Rattle.reductions.specs.Trails.{steps_of, taken, banned};
 

@@ -1,5 +1,6 @@
 use Rattle.std.proofs.Common.{◌≡◌, ◌+◌, ◌<◌, ◌≤◌, length, sym, ap, ◌∙◌, add-one, arith, rules}
-use Rattle.charts.specs.Sets.{member, down}
+use Rattle.fixed.specs.Sets.{member}
+use Rattle.charts.specs.Sets.{down}
 use Rattle.charts.proofs.Values.{value_more, down_short, down_with, down_less}
 use Rattle.charts.proofs.valued.value_of.Goals as goal
 

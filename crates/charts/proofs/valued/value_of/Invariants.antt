@@ -1,6 +1,7 @@
 use Rattle.std.proofs.Common.{◌≡◌, map, length}
 use Rattle.orders.specs.Orders.{total}
-use Rattle.charts.specs.Sets.{down, member}
+use Rattle.fixed.specs.Sets.{member}
+use Rattle.charts.specs.Sets.{down}
 use Rattle.charts.proofs.valued.value_of.Given as goal
 
 abbrev pub invariant-loop-k : goal.invariant-loop-k

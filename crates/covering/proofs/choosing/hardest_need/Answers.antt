@@ -1,12 +1,11 @@
-use Rattle.std.proofs.Common.{◌≡◌, ℕ, ◌<◌, true, false, Some, None, Option, refl, below_more, MatchOption}
-use Rattle.reductions.specs.Trails.{taken}
+use Rattle.std.proofs.Common.{rules, tests, arith}
+use Rattle.std.proofs.lemmas.Iterator.{YieldsList-from_range}
+use Rattle.std.proofs.lemmas.Iterator.Consumers.{YieldsList-from_filter}
+use Rattle.covering.proofs.Picking.{none_picked}
 use Rattle.covering.proofs.choosing.hardest_need.Goals as goal
 
-widened : (P P' : Type 0) (Q : ℕ → Type 0) (o : Option ℕ) → (P → P') → MatchOption o P Q → MatchOption o P' Q
-widened P P' Q None f h = f h
-widened P P' Q (Some i) f h = h
-
-pub loop-i-preserved-then-held_by : goal.loop-i-preserved-then-held_by
-loop-i-preserved-then-held_by g c =
-    let m = g.C.Chart.grid c.args.chart.now in
-    widened _ _ (λ i. (i < m.wanted) × ((k : ℕ) → k < m.width → taken c.args.node.now k ≡ true → m.held k i ≡ false)) c.loop-i.hardest (λ all. below_more _ _ all (c.if-held_by.ensures.holds refl)) c.loop-i.invariant
+pub returns-clause-none : goal.returns-clause-none
+returns-clause-none g c h =
+    let n = (g.C.Chart.grid c.args.chart.now).wanted in
+    none_picked _ c.filter.result _ c.min_by_key.result c.min_by_key.ensures.ran h
+    (YieldsList-from_filter _ _ (YieldsList-from_range 0 n n (cc) (omega arith)) c.filter.ensures.closure (λ x r q k. search (rules, tests)))

@@ -1,35 +1,13 @@
-use Rattle.std.proofs.Common.{◌≡◌, Bool, true, not, ◌&&◌, ◌||◌, eqb, ap, ◌∙◌, subst, add-one, arith}
-use Rattle.charts.specs.Sets.{member}
-use Rattle.charts.proofs.Membership.{no_member}
-use Rattle.reductions.specs.Trails.{taken, banned}
-use Rattle.reductions.proofs.Stepping.{marked_taken, marked_banned}
-use Rattle.covering.specs.Splitting.{Splits}
-use Rattle.covering.proofs.Settling.{splits_none, splits_more, asks_from}
+use Rattle.std.proofs.Common.{◌≡◌, ℕ, ◌<◌, ◌||◌, ◌&&◌, not, nat_eq, nat_lt, rules}
+use Rattle.fixed.specs.Sets.{member}
+use Rattle.fixed.proofs.Members.{none_past}
+use Rattle.covering.proofs.Settling.{asks_by}
 use Rattle.covering.proofs.earliest.split.Goals as goal
-
-pub loop-k-init : goal.loop-k-init
-loop-k-init c = splits_none _ _ _ (λ k. (no_member c.none.result.on c.none.ensures k, no_member c.none-2.result.on c.none-2.ensures k))
-
-pub loop-k-preserved : goal.loop-k-preserved
-loop-k-preserved c =
-    let s = member c.args.set.now in
-    let n = c.loop-k.node in
-    let m = c.mark.new.self in
-    let k = c.loop-k.k in
-    let has = c.contains.ensures in
-    let v = c.contains.result in
-    rw add-one
-    (splits_more s (taken n) (banned n) (taken m) (banned m) k c.loop-k.invariant
-    (λ i. marked_taken v n.taken.on m.taken.on k i (omega (arith, n.taken.full)) c.mark.ensures.taken ∙ ap (λ (y : Bool). (y && eqb k i) || taken n i) has)
-    (λ i. marked_banned v n.banned.on m.banned.on k i (omega (arith, n.banned.full)) c.mark.ensures.banned ∙ ap (λ (y : Bool). (not y && eqb k i) || banned n i) has))
 
 pub returns : goal.returns
 returns c =
     let s = member c.args.set.now in
-    let n = c.loop-k.node in
-    let m = c.mark-2.new.self in
     let j = c.args.j in
-    let e : c.loop-k.k ≡ j = omega arith in
-    asks_from s (taken n) (banned n) (taken m) (banned m) j (subst (Splits s (taken n) (banned n)) e c.loop-k.invariant)
-    (λ i. marked_taken true n.taken.on m.taken.on j i (omega (arith, n.taken.full)) c.mark-2.ensures.taken)
-    (λ i. marked_banned true n.banned.on m.banned.on j i (omega (arith, n.banned.full)) c.mark-2.ensures.banned)
+    let has : (k : ℕ) → k < 256 → member c.from_fn.result k ≡ (nat_eq k j || (nat_lt k j && s k)) = λ k l. search (rules, c.from_fn.ensures k l) in
+    let lacks : (k : ℕ) → k < 256 → member c.from_fn-2.result k ≡ (nat_lt k j && not (s k)) = λ k l. search (rules, c.from_fn-2.ensures k l) in
+    asks_by 256 s (member c.from_fn.result) (member c.from_fn-2.result) j c.requires has lacks (λ k h. (none_past 256 c.from_fn.result k h, none_past 256 c.from_fn-2.result k h))

@@ -1,8 +1,8 @@
 use Rattle.std.proofs.Common.{◌≡◌, ℕ, ◌<◌, true, false}
-use Rattle.charts.specs.Sets.{member}
+use Rattle.fixed.specs.Sets.{member}
 use Rattle.covering.proofs.floor.use_columns.Given as goal
 
-abbrev pub invariant-loop-c : goal.invariant-loop-c
-invariant-loop-c g l =
-    ((c : ℕ) → c < l.c → (g.C.Chart.grid l.chart).held c l.need ≡ true → member l.left_out c ≡ false → member l.used c ≡ true)
+abbrev pub invariant-loop-column : goal.invariant-loop-column
+invariant-loop-column g l =
+    ((c : ℕ) → c < l.column → (g.C.Chart.grid l.chart).held c l.need ≡ true → member l.left_out c ≡ false → member l.used c ≡ true)
     × ((c : ℕ) → member l.initial.used c ≡ true → member l.used c ≡ true)

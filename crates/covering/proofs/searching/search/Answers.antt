@@ -1,9 +1,11 @@
 use Rattle.std.proofs.Common.{◌≡◌, ℕ, true, false, ◌&&◌, ltb, sym, refl, ap, ◌∙◌, ⊎_elim, arith}
-use Rattle.std.proofs.lemmas.Bool.{cases_Bool}
+use Rattle.std.proofs.lemmas.Bool.{cases_Bool, false≢true}
 use Rattle.charts.specs.Best.{problem, columns, covering}
-use Rattle.charts.specs.Sets.{member, Covers}
-use Rattle.charts.proofs.Membership.{every_member}
+use Rattle.fixed.specs.Sets.{member}
+use Rattle.charts.specs.Sets.{Covers}
+use Rattle.fixed.proofs.Members.{every_member}
 use Rattle.charts.proofs.Listings.{whole_covers, covers_whole, best_set_lem, members_cut, listed_best, total_best, size_best}
+use Rattle.covering.proofs.Lefts.{covers_all, all_covered}
 use Rattle.covering.proofs.searching.search.Goals as goal
 
 pub returns-then-not-covers : goal.returns-then-not-covers
@@ -13,10 +15,10 @@ returns-then-not-covers g c =
     let m = g.C.Chart.grid c.args.chart.now in
     let p = problem (o.meaning me) m in
     let few = (g.met.C.Chart.small c.args.chart.now).few in
-    let all : Covers m (λ _. true) → Covers m (member c.all.result) = λ h i l. let w = h i l in let k = w.1 in (w.0, w.1, every_member c.all.result.on c.all.ensures w.0 (omega arith), w.3) in
+    let all : Covers m (λ _. true) → Covers m (member c.all.result) = λ h i l. let w = h i l in let k = w.1 in (w.0, w.1, every_member 256 c.all.result.on c.all.ensures w.0 (omega arith), w.3) in
     record {
       answered = ⊎_elim
-          (λ (e : covering m (columns m) ≡ true). absurd (c.if-not-covers.ensures.lacks refl (all (whole_covers p (o.laws me) e))))
+          (λ (e : covering m (columns m) ≡ true). absurd (false≢true (c.if-not-covers.ensures ∙ all_covered m (member c.all.result) (all (whole_covers p (o.laws me) e)))))
           (λ (e : covering m (columns m) ≡ false). sym e)
           (cases_Bool (covering m (columns m)));
       set = tt;
@@ -26,7 +28,7 @@ returns-then-not-covers g c =
     }
 
 pub least-good-requires : goal.least-good-requires
-least-good-requires g c = λ i l. let w = c.if-not-covers.ensures.holds refl i l in (w.0, w.1, refl, w.3)
+least-good-requires g c = λ i l. let w = covers_all (g.C.Chart.grid c.args.chart.now) (member c.all.result) (sym c.if-not-covers.ensures) i l in (w.0, w.1, refl, w.3)
 
 pub returns : goal.returns
 returns g c =
@@ -35,7 +37,7 @@ returns g c =
     let m = g.C.Chart.grid c.args.chart.now in
     let p = problem (o.meaning me) m in
     let few = (g.met.C.Chart.small c.args.chart.now).few in
-    let whole : Covers m (λ _. true) = λ i l. let w = c.if-not-covers.ensures.holds refl i l in (w.0, w.1, refl, w.3) in
+    let whole : Covers m (λ _. true) = λ i l. let w = covers_all (g.C.Chart.grid c.args.chart.now) (member c.all.result) (sym c.if-not-covers.ensures) i l in (w.0, w.1, refl, w.3) in
     let s = member c.earliest-best.result.set in
     let first = c.earliest-best.ensures.first in
     let value = c.earliest-best.ensures.value in

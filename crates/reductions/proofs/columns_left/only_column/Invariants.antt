@@ -1,5 +1,5 @@
 use Rattle.std.proofs.Common.{◌≡◌, ℕ, ◌<◌, true, false, ◌⊎◌, MatchOption}
-use Rattle.charts.specs.Sets.{member}
+use Rattle.fixed.specs.Sets.{member}
 use Rattle.reductions.proofs.columns_left.only_column.Given as goal
 
 abbrev pub invariant-loop-c : goal.invariant-loop-c

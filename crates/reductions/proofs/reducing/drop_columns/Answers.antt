@@ -1,8 +1,9 @@
 use Rattle.std.proofs.Common.{◌≡◌, ℕ, ◌<◌, false, sym, refl, subst, arith}
+use Rattle.fixed.specs.Sets.{member}
 use Rattle.charts.specs.Best.{problem}
 use Rattle.charts.specs.Sets.{Held}
 use Rattle.reductions.specs.declared.node.Node.{Node}
-use Rattle.reductions.specs.Spares.{wants, Enough, Spare}
+use Rattle.reductions.specs.Spares.{Enough, Spare}
 use Rattle.reductions.specs.Trails.{taken, banned}
 use Rattle.reductions.proofs.Stepping.{free_parts}
 use Rattle.reductions.proofs.Narrowing.{spared, enough_open, enough_kept}
@@ -13,7 +14,7 @@ pub drop_needs-requires : goal.drop_needs-requires
 drop_needs-requires g c =
     let m = g.C.Chart.grid c.args.chart.now in
     let n = c.args.trail.now.node in
-    let ns = wants c.open_needs-needs.result in
+    let ns = member c.open_needs-needs.result in
     let Shut : Node → Type 0 = λ x. (i : ℕ) → i < m.wanted → ns i ≡ false → Held m (taken x) i in
     let Stays : Node → Type 0 = λ x. Enough m (taken x) (banned x) ns in
     subst Stays (sym c.node-2.ensures) (enough_open m (taken n) (banned n) ns (subst Shut c.node.ensures c.open_needs-needs.ensures.closed))
@@ -21,7 +22,7 @@ drop_needs-requires g c =
 pub loop-a-init : goal.loop-a-init
 loop-a-init g c =
     let m = g.C.Chart.grid c.args.chart.now in
-    let Stays : Node → Type 0 = λ x. Enough m (taken x) (banned x) (wants c.drop_needs.new.needs) in
+    let Stays : Node → Type 0 = λ x. Enough m (taken x) (banned x) (member c.drop_needs.new.needs) in
     (narrowed_none _ c.args.trail.now, subst Stays c.node-2.ensures c.drop_needs.ensures)
 
 pub loop-a-preserved : goal.loop-a-preserved
@@ -33,7 +34,7 @@ loop-a-preserved g c =
     let s = c.loop-a.trail in
     let s' = c.fix.new.self in
     let a = c.loop-a.a in
-    let ns = wants c.drop_needs.new.needs in
+    let ns = member c.drop_needs.new.needs in
     let la : a < m.width = omega (arith, c.columns-a-end.ensures) in
     let free = free_parts (taken s.node) (banned s.node) a (sym c.if-not-is_free.ensures) in
     let Spares : Node → Type 0 = λ x. Spare p (banned x) ns a in

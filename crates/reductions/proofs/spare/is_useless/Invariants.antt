@@ -1,6 +1,6 @@
 use Rattle.std.proofs.Common.{◌≡◌, ℕ, ◌<◌, true, false}
-use Rattle.reductions.specs.Spares.{wants}
+use Rattle.fixed.specs.Sets.{member}
 use Rattle.reductions.proofs.spare.is_useless.Given as goal
 
 abbrev pub invariant-loop-i : goal.invariant-loop-i
-invariant-loop-i g l = (i : ℕ) → i < l.i → (g.C.Chart.grid l.chart).held l.a i ≡ true → wants l.needs i ≡ false
+invariant-loop-i g l = (i : ℕ) → i < l.i → (g.C.Chart.grid l.chart).held l.a i ≡ true → member l.needs i ≡ false

@@ -1,5 +1,5 @@
 use Rattle.std.proofs.Common.{◌≡◌, ◌+◌, ◌<◌, false, length, get_or, set, sym, refl, ap, ◌∙◌, arith, length-set, rules}
-use Rattle.charts.specs.Sets.{member}
+use Rattle.fixed.specs.Sets.{member}
 use Rattle.reductions.specs.Steps.{step, up_to, backed, is_fresh}
 use Rattle.reductions.specs.Trails.{steps_of}
 use Rattle.reductions.proofs.Stepping.{up_to_push, fresh_back}

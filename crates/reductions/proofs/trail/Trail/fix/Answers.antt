@@ -1,5 +1,5 @@
 use Rattle.std.proofs.Common.{◌≡◌, ◌+◌, ◌<◌, Bool, cond, ◌∷◌, length, set, sym, refl, ap, ◌∙◌, arith, rules}
-use Rattle.charts.specs.Sets.{member}
+use Rattle.fixed.specs.Sets.{member}
 use Rattle.reductions.specs.Steps.{step, up_to, is_fresh}
 use Rattle.reductions.specs.Trails.{taken, banned, steps_of}
 use Rattle.reductions.proofs.Stepping.{length_up_to, up_to_push, free_parts, free_like, fresh_room, fresh_more, marked_taken, marked_banned, taken_next, banned_next}

@@ -1,5 +1,5 @@
 use Rattle.std.proofs.Common.{◌+◌, ◌<◌, false, get_or, refl, ap, add-one, arith}
-use Rattle.charts.specs.Sets.{member}
+use Rattle.fixed.specs.Sets.{member}
 use Rattle.reductions.specs.Steps.{step, up_to}
 use Rattle.reductions.specs.Trails.{taken, banned}
 use Rattle.reductions.proofs.Stepping.{fresh_at, marked_taken, marked_banned, taken_next, banned_next}

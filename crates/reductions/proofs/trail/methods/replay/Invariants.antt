@@ -1,5 +1,5 @@
 use Rattle.std.proofs.Common.{◌≡◌, ℕ}
-use Rattle.charts.specs.Sets.{member}
+use Rattle.fixed.specs.Sets.{member}
 use Rattle.reductions.specs.Steps.{up_to, taken_by, banned_by}
 use Rattle.reductions.proofs.trail.methods.replay.Given as goal
 

@@ -1,0 +1,128 @@
+-- The columns that are left for a need: what a chain over them says of each.
+use Rattle.std.proofs.Common.{◌≡◌, ℕ, ◌<◌, Bool, true, false, not, ◌&&◌, cond, List, [], ◌∷◌, filter, length, Some, sym, refl, ap, ◌∙◌, subst, inl, inr, ⊎_elim, arith}
+use Rattle.std.specs.List.{list_all, fold, reduce, range_with_len}
+use Rattle.std.proofs.lemmas.Bool.{both_ways, not-true, not-false, false≢true}
+use Rattle.terms.specs.Lists.{In}
+use Rattle.terms.proofs.Members.{in_kept}
+use Rattle.orders.specs.Orders.{Laws}
+use Rattle.orders.proofs.Totalling.{at_most_self}
+use Rattle.charts.specs.Grids.{Grid}
+use Rattle.charts.specs.Best.{Problem, columns}
+use Rattle.charts.specs.Sets.{is_held, Covers}
+use Rattle.charts.proofs.Listings.{in_counting, counting_in}
+use Rattle.charts.proofs.Holding.{held_from, from_held, unheld_from}
+use Rattle.covering.specs.Seeking.{is_left}
+use Rattle.covering.specs.Floors.{is_unused, cheaper, Apart, Cheapest}
+
+and_left : (a b : Bool) → (a && b) ≡ true → a ≡ true
+and_left true b h = refl
+and_left false b h = h
+
+and_rest : (a b : Bool) → (a && b) ≡ true → b ≡ true
+and_rest true b h = h
+and_rest false b h = absurd (false≢true h)
+
+-- what all pass each passes
+each_of : (p : ℕ → Bool) (xs : List ℕ) (x : ℕ) → list_all p xs ≡ true → In x xs → p x ≡ true
+each_of p [] x h i = absurd i
+each_of p (y ∷ ys) x h (inl e) = ap p e ∙ and_left (p y) (list_all p ys) h
+each_of p (y ∷ ys) x h (inr i) = each_of p ys x (and_rest (p y) (list_all p ys) h) i
+
+-- where nothing is kept nothing passes
+none_kept : (p : ℕ → Bool) (xs : List ℕ) (x : ℕ) → length (filter p xs) ≡ 0 → In x xs → p x ≡ false
+none_kept p xs x h i = go (p x) refl
+  where
+    empty : (ys : List ℕ) → In x ys → length ys ≡ 0 → ⊥
+    empty [] j e = j
+    empty (y ∷ ys) j e = absurd (omega arith)
+
+    go : (b : Bool) → p x ≡ b → p x ≡ false
+    go false e = e
+    go true e = absurd (empty (filter p xs) (in_kept p x xs i e) h)
+
+-- a column that is there, holds the need and is not left out is left
+left_in : (g : Grid) (b : ℕ → Bool) (i c : ℕ) → c < g.width → g.held c i ≡ true → b c ≡ false → In c (filter (is_left g b i) (columns g))
+left_in g b i c l h n = in_kept (is_left g b i) c (columns g) (counting_in 0 g.width c (omega arith) (omega arith)) (ap (λ (y : Bool). not y && g.held c i) n ∙ h)
+
+-- no column that is left is taken or used
+pub apart_from : (g : Grid) (t b u : ℕ → Bool) (i : ℕ) → list_all (is_unused t u) (filter (is_left g b i) (columns g)) ≡ true → Apart g t b u i
+apart_from g t b u i h c l y n =
+    let w = each_of (is_unused t u) (filter (is_left g b i) (columns g)) c h (left_in g b i c l y n) in
+    (free (t c) (and_left (not (t c)) (not (u c)) w), free (u c) (and_rest (not (t c)) (not (u c)) w))
+  where
+    free : (a : Bool) → not a ≡ true → a ≡ false
+    free false e = refl
+    free true e = absurd (false≢true e)
+
+-- of the columns that are left, none is cheaper
+module _ (p : Problem) (laws : Laws p.order) where
+  abbrev AtMost : ℕ → ℕ → Type 0
+  AtMost r c = p.order.at_most (p.order.price (p.grid.term r)) (p.order.price (p.grid.term c)) ≡ true
+
+  via : (r s c : ℕ) → AtMost r s → AtMost s c → AtMost r c
+  via r s c = laws.trans (p.order.price (p.grid.term r)) (p.order.price (p.grid.term s)) (p.order.price (p.grid.term c))
+
+  both : (a b : ℕ) → AtMost (cheaper p a b) a × AtMost (cheaper p a b) b
+  both a b = go (p.order.at_most (p.order.price (p.grid.term a)) (p.order.price (p.grid.term b))) refl
+    where
+      go : (y : Bool) → p.order.at_most (p.order.price (p.grid.term a)) (p.order.price (p.grid.term b)) ≡ y → AtMost (cond y a b) a × AtMost (cond y a b) b
+      go true e = (at_most_self p.order laws (p.order.price (p.grid.term a)), e)
+      go false e = (
+        ⊎_elim (λ (q : AtMost a b). absurd (both_ways _ e q)) (λ (q : AtMost b a). q) (laws.connected (p.order.price (p.grid.term a)) (p.order.price (p.grid.term b))),
+        at_most_self p.order laws (p.order.price (p.grid.term b)),
+      )
+
+  folded : (x : ℕ) (xs : List ℕ) → AtMost (fold (cheaper p) x xs) x × ((c : ℕ) → In c xs → AtMost (fold (cheaper p) x xs) c)
+  folded x [] = (at_most_self p.order laws (p.order.price (p.grid.term x)), λ c i. absurd i)
+  folded x (y ∷ ys) =
+      let w = folded (cheaper p x y) ys in
+      let r = fold (cheaper p) (cheaper p x y) ys in
+      let two = both x y in
+      let at_y = via r (cheaper p x y) y w.0 two.1 in
+      (via r (cheaper p x y) x w.0 two.0, λ c i. later c at_y w.1 i)
+    where
+      later : (c : ℕ) → AtMost (fold (cheaper p) (cheaper p x y) ys) y → ((d : ℕ) → In d ys → AtMost (fold (cheaper p) (cheaper p x y) ys) d) → In c (y ∷ ys) → AtMost (fold (cheaper p) (cheaper p x y) ys) c
+      later c a f (inl e) = rw e a
+      later c a f (inr i) = f c i
+
+  pub cheapest_from : (b : ℕ → Bool) (i r : ℕ) → reduce (cheaper p) (filter (is_left p.grid b i) (columns p.grid)) ≡ Some r → Cheapest p b i r
+  cheapest_from b i r e c l h n = go (filter (is_left p.grid b i) (columns p.grid)) e (left_in p.grid b i c l h n)
+    where
+      go : (xs : List ℕ) → reduce (cheaper p) xs ≡ Some r → In c xs → AtMost r c
+      go [] e j = absurd j
+      go (x ∷ xs) e j = let q : fold (cheaper p) x xs ≡ r = cc in at q j
+        where
+          at : fold (cheaper p) x xs ≡ r → In c (x ∷ xs) → AtMost r c
+          at q (inl k) = subst (λ (u : ℕ). AtMost u c) q (subst (AtMost (fold (cheaper p) x xs)) (sym k) (folded x xs).0)
+          at q (inr k) = subst (λ (u : ℕ). AtMost u c) q ((folded x xs).1 c k)
+
+-- each need is held where none is left open
+pub covers_from : (g : Grid) (t : ℕ → Bool) → length (filter (λ i. not (is_held g t i)) (range_with_len 0 g.wanted)) ≡ 0 → Covers g t
+covers_from g t h i l = held_from g t i (not-false (is_held g t i) (none_kept (λ k. not (is_held g t k)) (range_with_len 0 g.wanted) i h (counting_in 0 g.wanted i (omega arith) (omega arith))))
+
+-- a set covers exactly when each need is held
+pub covers_all : (g : Grid) (s : ℕ → Bool) → list_all (is_held g s) (range_with_len 0 g.wanted) ≡ true → Covers g s
+covers_all g s h i l = held_from g s i (each_of (is_held g s) (range_with_len 0 g.wanted) i h (counting_in 0 g.wanted i (omega arith) (omega arith)))
+
+pub all_covered : (g : Grid) (s : ℕ → Bool) → Covers g s → list_all (is_held g s) (range_with_len 0 g.wanted) ≡ true
+all_covered g s h = go (range_with_len 0 g.wanted) (λ i k. let l = (in_counting 0 g.wanted i k).1 in from_held g s i (h i (omega arith)))
+  where
+    go : (xs : List ℕ) → ((i : ℕ) → In i xs → is_held g s i ≡ true) → list_all (is_held g s) xs ≡ true
+    go [] f = refl
+    go (x ∷ xs) f = ap (λ (b : Bool). b && list_all (is_held g s) xs) (f x (inl refl)) ∙ go xs (λ i k. f i (inr k))
+
+-- each column that holds the need is left out where none is left
+pub none_left_from : (g : Grid) (b : ℕ → Bool) (i : ℕ) → length (filter (is_left g b i) (columns g)) ≡ 0 → (c : ℕ) → c < g.width → g.held c i ≡ true → b c ≡ true
+none_left_from g b i h c l y = go (b c) refl
+  where
+    go : (v : Bool) → b c ≡ v → b c ≡ true
+    go true e = e
+    go false e = absurd (both_ways _ (none_kept (is_left g b i) (columns g) c h (counting_in 0 g.width c (omega arith) (omega arith))) (ap (λ (v : Bool). not v && g.held c i) e ∙ y))
+
+-- a column that is left for an open need is free
+pub left_free : (g : Grid) (t b : ℕ → Bool) (i c : ℕ) → is_held g t i ≡ false → c < g.width → is_left g b i c ≡ true → (t c ≡ false) × (b c ≡ false)
+left_free g t b i c unheld l h = (go (t c) refl, not-true (b c) (and_left (not (b c)) (g.held c i) h))
+  where
+    go : (y : Bool) → t c ≡ y → t c ≡ false
+    go false e = e
+    go true e = absurd (both_ways _ (unheld_from g t i unheld c l e) (and_rest (not (b c)) (g.held c i) h))

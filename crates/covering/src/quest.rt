@@ -1,0 +1,17 @@
+// What a search is after.
+ghost use Rattle.fixed.specs.Sets.{member};
+ghost use Rattle.charts.specs.Best.{problem};
+ghost use Rattle.covering.specs.Priced.{Priced};
+
+use charts::{Chart, Valued};
+use orders::CostOrder;
+
+// Sets of the chart's columns that cover and are better than the bound, or, unless they are to be strictly so, no worse.
+#[derive(Drop)]
+pub struct Quest<'a, O: CostOrder, C: Chart> {
+    pub order: &'a O,
+    pub chart: &'a C,
+    pub bound: Valued<O::Total>,
+    pub strict: bool,
+    ghost priced: { ∥ Priced (problem (O.CostOrder.meaning order.now) (C.Chart.grid chart.now)) (O.CostOrder.exact order.now bound.total) bound.size (member bound.set) ∥₁ },
+}

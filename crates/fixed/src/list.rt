@@ -1,0 +1,115 @@
+// Lists of at most a fixed number of items.
+ghost use Rattle.std.specs.Prelude.{◌≡◌, ◌-◌, ◌≤◌, ◌++◌, ◌==◌, [], length, is_ok, nat_lt, slice_get, slice_set};
+ghost use Rattle.std.specs.Option.{option_to_list};
+
+use std::alloc::AllocError;
+use std::error::Error;
+use std::fmt;
+
+// The first `len` items of the table are the list; what stands after them is of no account.
+pub struct FixedList<T, const N: usize> {
+    items: [T; N],
+    len: usize,
+    ghost whole: { length items ≡ N },
+    ghost fits: { len ≤ N },
+}
+
+// There is no room for another item.
+#[derive(Clone, Copy, PartialEq, Eq, Debug)]
+pub struct Full;
+
+impl fmt::Display for Full {
+    fn fmt<W: fmt::Write>(&self, f: &mut fmt::Formatter<W>) -> fmt::Result {
+        write!(f, "no room for another item")
+    }
+}
+
+impl Error for Full {}
+
+impl<T: Copy, const N: usize> Copy for FixedList<T, N> {}
+
+impl<T: Copy, const N: usize> Clone for FixedList<T, N> {
+    fn clone(&self) -> Result<FixedList<T, N>, AllocError> {
+        Ok(*self)
+    }
+}
+
+impl<T: Copy + Default, const N: usize> FixedList<T, N> {
+    ghost use Rattle.fixed.specs.Lists.{entries};
+
+    // No item yet.
+    pub fn new() -> FixedList<T, N>
+        ensures { entries result ≡ [] }
+    {
+        FixedList {
+            items: [T::default(); N],
+            len: 0,
+        }
+    }
+}
+
+impl<T: Copy, const N: usize> FixedList<T, N> {
+    ghost use Rattle.fixed.specs.Lists.{entries, pushed};
+
+    // How many items there are.
+    pub fn len(&self) -> usize
+        ensures value { result ≡ length (entries self.now) }
+        ensures bound { result ≤ N }
+    {
+        self.as_slice().len()
+    }
+
+    // Whether there is no item.
+    pub fn is_empty(&self) -> bool
+        ensures { result ≡ (length (entries self.now) == 0) }
+    {
+        self.len == 0
+    }
+
+    // The items, in order.
+    pub fn as_slice(&self) -> &[T]
+        ensures value { result.now ≡ entries self.now }
+        ensures bound { length result.now ≤ N }
+    {
+        &self.items[..self.len]
+    }
+
+    // The item at a place, counted from 0.
+    pub fn get(&self, place: usize) -> Option<T>
+        ensures { result ≡ slice_get (entries self.now) place }
+    {
+        self.as_slice().get(place).copied()
+    }
+
+    // Adds an item at the end, where there is room.
+    pub fn push(&mut self, item: T) -> Result<(), Full>
+        ensures room { is_ok result ≡ nat_lt (length (entries self.old)) N }
+        ensures after { entries self.new ≡ pushed N (entries self.old) item }
+    {
+        if self.len == N {
+            return Err(Full);
+        }
+        self.items[self.len] = item;
+        self.len += 1;
+        Ok(())
+    }
+
+    // Takes the last item off.
+    pub fn pop(&mut self) -> Option<T>
+        ensures last { result ≡ slice_get (entries self.old) (length (entries self.old) - 1) }
+        ensures rest { entries self.old ≡ entries self.new ++ option_to_list result }
+    {
+        let at = self.len.checked_sub(1)?;
+        self.len = at;
+        Some(self.items[at])
+    }
+
+    // Puts an item at a place, counted from 0, where there is one.
+    pub fn set(&mut self, place: usize, item: T)
+        ensures { entries self.new ≡ slice_set (entries self.old) place item }
+    {
+        if place < self.len {
+            self.items[place] = item;
+        }
+    }
+}

@@ -1,0 +1,75 @@
+// Sets of numbers below a bound.
+ghost use Rattle.std.specs.Prelude.{◌≡◌, ℕ, ◌<◌, true, false, ◌&&◌, length, replicate, nat_lt, slice_set};
+
+// Some of the numbers below N: a switch for each.
+#[derive(Clone, Copy, PartialEq, Eq, Debug)]
+pub struct FixedSet<const N: usize> {
+    on: [bool; N],
+    ghost full: { length on ≡ N },
+}
+
+impl<const N: usize> FixedSet<N> {
+    ghost use Rattle.fixed.specs.Sets.{member};
+
+    // No number.
+    pub fn none() -> FixedSet<N>
+        ensures { result.on ≡ replicate N false }
+    {
+        FixedSet { on: [false; N] }
+    }
+
+    // Every number below N.
+    pub fn all() -> FixedSet<N>
+        ensures { result.on ≡ replicate N true }
+    {
+        FixedSet { on: [true; N] }
+    }
+
+    // Whether the set has a number.
+    pub fn contains(&self, number: usize) -> bool
+        ensures { result ≡ member self.now number }
+    {
+        number < N && self.on[number]
+    }
+
+    // Puts a number into the set, where it is below N.
+    pub fn insert(&mut self, number: usize)
+        ensures { self.new.on ≡ slice_set self.old.on number true }
+    {
+        if number < N {
+            self.on[number] = true;
+        }
+    }
+
+    // Takes a number out of the set.
+    pub fn remove(&mut self, number: usize)
+        ensures { self.new.on ≡ slice_set self.old.on number false }
+    {
+        if number < N {
+            self.on[number] = false;
+        }
+    }
+
+    // The numbers below N that pass a test.
+    pub fn from_fn<F: Fn(usize) -> bool>(test: F) -> FixedSet<N>
+        requires { F.IsAlwaysCallable test }
+        ensures { (k : ℕ) → k < N → F.post test k (member result k) }
+    {
+        let mut on = [false; N];
+        for number in 0..N {
+            on[number] = test(number);
+        }
+        FixedSet { on }
+    }
+
+    // The members below n.
+    pub fn below(&self, n: usize) -> FixedSet<N>
+        ensures { (k : ℕ) → member result k ≡ (member self.now k && nat_lt k n) }
+    {
+        FixedSet::from_fn(
+            |number: usize| -> bool
+                ensures { result ≡ (member self.entry.now number && nat_lt number n) }
+            { self.contains(number) && number < n },
+        )
+    }
+}
