@@ -1,7 +1,7 @@
 // One step of a search.
 
 // A column taken or banned; where it was taken by a decision, the other side is still owed.
-#[derive(Clone, Copy)]
+#[derive(Clone, Copy, Default)]
 pub struct Step {
     pub column: usize,
     pub takes: bool,
