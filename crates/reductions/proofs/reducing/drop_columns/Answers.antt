@@ -1,4 +1,4 @@
-use Rattle.std.proofs.Common.{◌≡◌, ℕ, ◌<◌, false, sym, refl, subst, arith}
+use Rattle.std.proofs.Common.{◌≡◌, ℕ, ◌<◌, false, sym, subst, arith}
 use Rattle.fixed.specs.Sets.{member}
 use Rattle.charts.specs.Best.{problem}
 use Rattle.charts.specs.Sets.{Held}
@@ -6,6 +6,7 @@ use Rattle.reductions.specs.declared.node.Node.{Node}
 use Rattle.reductions.specs.Spares.{Enough, Spare}
 use Rattle.reductions.specs.Trails.{taken, banned}
 use Rattle.reductions.proofs.Stepping.{free_parts}
+use Rattle.reductions.proofs.Reading.{spare_from}
 use Rattle.reductions.proofs.Narrowing.{spared, enough_open, enough_kept}
 use Rattle.reductions.proofs.Trailing.{narrowed_none, narrowed_more, narrowed_fix, fix_keeps_taken, fix_keeps_banned}
 use Rattle.reductions.proofs.reducing.drop_columns.Goals as goal
@@ -38,7 +39,7 @@ loop-a-preserved g c =
     let la : a < m.width = omega (arith, c.columns-a-end.ensures) in
     let free = free_parts (taken s.node) (banned s.node) a (sym c.if-not-is_free.ensures) in
     let Spares : Node → Type 0 = λ x. Spare p (banned x) ns a in
-    let spare : Spares s.node = subst Spares c.node-in-loop-a.ensures (c.if-not-is_spare.ensures refl) in
+    let spare : Spares s.node = subst Spares c.node-in-loop-a.ensures (spare_from p (member c.node-in-loop-a.result.now.banned) ns a (sym c.if-not-is_spare.ensures)) in
     let enough = c.loop-a.invariant.1 in (
       narrowed_more p c.args.trail.now s s' c.loop-a.invariant.0
           (narrowed_fix p s s' a false c.fix.ensures.root c.fix.ensures.steps
