@@ -1,13 +1,15 @@
 -- The steps of a search: what they keep, how many there can be, and how they stand in the table.
-use Rattle.std.proofs.Common.{◌≡◌, ℕ, zero, suc, ◌+◌, ◌-◌, ◌<◌, ◌≤◌, Bool, true, false, cond, not, ◌&&◌, ◌||◌, eqb, ltb, List, [], ◌∷◌, ◌++◌, length, reverse, take, drop, get_or, set, None, sym, refl, ap, ◌∙◌, subst, inl, inr, ⊎_elim, arith}
+use Rattle.std.proofs.Common.{◌≡◌, ℕ, zero, suc, ◌+◌, ◌-◌, ◌<◌, ◌≤◌, Bool, true, false, cond, not, ◌&&◌, ◌||◌, eqb, ltb, List, [], ◌∷◌, ◌++◌, length, reverse, take, drop, get_or, None, sym, refl, ap, ◌∙◌, subst, inl, inr, ⊎_elim, arith}
 use Rattle.std.specs.List.{slice_get}
 use Rattle.std.proofs.lemmas.List.{reverse-append, take-append-drop, take_more}
 use Rattle.std.proofs.lemmas.Option.{none-some, slice_get-get_or}
 use Rattle.fixed.specs.Lists.{pushed}
-use Rattle.std.proofs.lemmas.Bool.{cases_Bool, or_parts, or_right, or_from, and_from, and_left, and_right, both_ways, and_parts, or_cases, eqb-true, lt-ltb, ltb-true, not-true, not_from_false, false≢true}
+use Rattle.std.proofs.lemmas.Bool.{cases_Bool, cases_lt, ne_eqb, or_parts, or_right, or_from, and_from, and_left, and_right, both_ways, and_parts, or_cases, eqb-true, lt-ltb, ltb-true, not-true, not_from_false, false≢true}
 use Rattle.charts.specs.Best.{Problem}
 use Rattle.charts.specs.Sets.{down, put}
-use Rattle.fixed.proofs.Members.{put_in}
+use Rattle.fixed.proofs.Members.{none_past}
+use Rattle.fixed.specs.declared.set.FixedSet.{FixedSet}
+use Rattle.fixed.specs.Sets.{member}
 use Rattle.charts.proofs.Values.{down_same, down_short, more_members}
 use Rattle.reductions.specs.declared.step.Step.{Step}
 use Rattle.reductions.specs.Steps.{step, taken_by, banned_by, is_free, is_fresh, owes, backed}
@@ -225,13 +227,13 @@ pub turns_back : (n : ℕ) (r : List Step) → owes r ≡ true → turns n (back
 turns_back n r h = omega (arith, turns_back_le n r h, turns_split n r)
 
 -- ---- a column marked at a node
-pub marked_taken : (v : Bool) (xs ys : List Bool) (c k : ℕ) → c < length xs → ys ≡ cond v (set xs c true) xs → get_or ys k false ≡ ((v && eqb c k) || get_or xs k false)
-marked_taken true xs ys c k h e = ap (λ (zs : List Bool). get_or zs k false) e ∙ put_in xs c k h
-marked_taken false xs ys c k h e = ap (λ (zs : List Bool). get_or zs k false) e
-
-pub marked_banned : (v : Bool) (xs ys : List Bool) (c k : ℕ) → c < length xs → ys ≡ cond v xs (set xs c true) → get_or ys k false ≡ ((not v && eqb c k) || get_or xs k false)
-marked_banned true xs ys c k h e = ap (λ (zs : List Bool). get_or zs k false) e
-marked_banned false xs ys c k h e = ap (λ (zs : List Bool). get_or zs k false) e ∙ put_in xs c k h
+-- the column is one of 256, so past them nothing changes
+pub marked : (s s' : FixedSet 256) (v : Bool) (c : ℕ) → c < 256 → ((k : ℕ) → k < 256 → member s' k ≡ ((v && eqb c k) || member s k)) → (k : ℕ) → member s' k ≡ ((v && eqb c k) || member s k)
+marked s s' v c small h k =
+    elim (cases_lt k 256) [
+      | inl l ↦ h k l
+      | inr l ↦ none_past 256 s' k l ∙ sym (or_from (v && eqb c k) (member s k) (and_right v (eqb c k) (ne_eqb c k (λ e. absurd (omega arith)))) (none_past 256 s k l))
+    ]
 
 -- free at a node that the steps lead to
 pub free_like : (t b : ℕ → Bool) (r : List Step) (c : ℕ) (u v : ℕ → Bool) → ((k : ℕ) → u k ≡ taken_by t r k) → ((k : ℕ) → v k ≡ banned_by b r k) → is_free u v c ≡ true → is_free (taken_by t r) (banned_by b r) c ≡ true

@@ -14,14 +14,13 @@ use orders::CostOrder;
 fn take_singles<O: CostOrder, C: Chart>(order: &O, chart: &C, trail: &mut Trail)
     ensures { Narrowed (problem (O.CostOrder.meaning order.now) (C.Chart.grid chart.now)) trail.old trail.new }
 {
-    for i in 0..chart.needs() {
-        if held_by(chart, &trail.node().taken, i) {
-            continue;
+    // A loop: each step changes the trail that the next turn asks.
+    for need in 0..chart.needs() {
+        if !held_by(chart, &trail.node().taken, need)
+            && let Some(column) = only_column(chart, &trail.node().banned, need)
+        {
+            trail.fix(column, true, false);
         }
-        let Some(column) = only_column(chart, &trail.node().banned, i) else {
-            continue;
-        };
-        trail.fix(column, true, false);
     }
 }
 
@@ -31,14 +30,11 @@ fn drop_columns<O: CostOrder, C: Chart>(order: &O, chart: &C, trail: &mut Trail)
 {
     let mut needs = open_needs(chart, &trail.node().taken);
     drop_needs(chart, trail.node(), &mut needs);
-    for a in 0..chart.columns() {
-        if !trail.is_free(a) {
-            continue;
+    // A loop, for the same reason.
+    for column in 0..chart.columns() {
+        if trail.is_free(column) && is_spare(order, chart, &trail.node().banned, &needs, column) {
+            trail.fix(column, false, false);
         }
-        if !is_spare(order, chart, &trail.node().banned, &needs, a) {
-            continue;
-        }
-        trail.fix(a, false, false);
     }
 }
 

@@ -49,13 +49,10 @@ pub(crate) fn drop_needs<C: Chart>(chart: &C, node: &Node, needs: &mut NeedSet)
     requires { Enough (C.Chart.grid chart.now) (taken node.now) (banned node.now) (member needs.old) }
     ensures { Enough (C.Chart.grid chart.now) (taken node.now) (banned node.now) (member needs.new) }
 {
-    for j in 0..chart.needs() {
-        if !needs.contains(j) {
-            continue;
+    // A loop: each need that goes changes the set that the next turn asks.
+    for need in 0..chart.needs() {
+        if needs.contains(need) && is_implied(chart, &node.banned, needs, need) {
+            needs.remove(need);
         }
-        if !is_implied(chart, &node.banned, needs, j) {
-            continue;
-        }
-        needs.remove(j);
     }
 }

@@ -1,8 +1,8 @@
-use Rattle.std.proofs.Common.{◌≡◌, Bool, true, not, ◌&&◌, ◌||◌, eqb, ap, ◌∙◌, subst, add-one, arith}
+use Rattle.std.proofs.Common.{◌≡◌, ◌<◌, Bool, true, false, not, ◌&&◌, ◌||◌, eqb, ap, ◌∙◌, subst, add-one, arith}
 use Rattle.fixed.specs.Sets.{member}
 use Rattle.fixed.proofs.Members.{no_member}
 use Rattle.reductions.specs.Trails.{taken, banned}
-use Rattle.reductions.proofs.Stepping.{marked_taken, marked_banned}
+use Rattle.reductions.proofs.Stepping.{marked}
 use Rattle.covering.specs.Splitting.{Splits}
 use Rattle.covering.proofs.Settling.{splits_none, splits_more, asks_from}
 use Rattle.covering.proofs.earliest.split.Goals as goal
@@ -18,10 +18,11 @@ loop-k-preserved c =
     let k = c.loop-k.k in
     let has = c.contains.ensures in
     let v = c.contains.result in
+    let small : k < 256 = omega (arith, c.loop-k-test.true, c.requires) in
     rw add-one
     (splits_more s (taken n) (banned n) (taken m) (banned m) k c.loop-k.invariant
-    (λ i. marked_taken v n.taken.on m.taken.on k i (omega (arith, n.taken.full)) c.mark.ensures.taken ∙ ap (λ (y : Bool). (y && eqb k i) || taken n i) has)
-    (λ i. marked_banned v n.banned.on m.banned.on k i (omega (arith, n.banned.full)) c.mark.ensures.banned ∙ ap (λ (y : Bool). (not y && eqb k i) || banned n i) has))
+    (λ i. marked n.taken m.taken v k small c.mark.ensures.taken i ∙ ap (λ (y : Bool). (y && eqb k i) || taken n i) has)
+    (λ i. marked n.banned m.banned (not v) k small c.mark.ensures.banned i ∙ ap (λ (y : Bool). (not y && eqb k i) || banned n i) has))
 
 pub returns : goal.returns
 returns c =
@@ -31,5 +32,5 @@ returns c =
     let j = c.args.j in
     let e : c.loop-k.k ≡ j = omega arith in
     asks_from s (taken n) (banned n) (taken m) (banned m) j (subst (Splits s (taken n) (banned n)) e c.loop-k.invariant)
-    (λ i. marked_taken true n.taken.on m.taken.on j i (omega (arith, n.taken.full)) c.mark-2.ensures.taken)
-    (λ i. marked_banned true n.banned.on m.banned.on j i (omega (arith, n.banned.full)) c.mark-2.ensures.banned)
+    (marked n.taken m.taken true j c.requires c.mark-2.ensures.taken)
+    (marked n.banned m.banned false j c.requires c.mark-2.ensures.banned)

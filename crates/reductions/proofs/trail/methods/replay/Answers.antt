@@ -1,8 +1,8 @@
-use Rattle.std.proofs.Common.{◌+◌, ◌<◌, false, get_or, reverse, take, arith}
+use Rattle.std.proofs.Common.{◌+◌, ◌<◌, false, not, get_or, reverse, take}
 use Rattle.fixed.specs.Sets.{member}
 use Rattle.reductions.specs.Steps.{step}
 use Rattle.reductions.specs.Trails.{taken, banned}
-use Rattle.reductions.proofs.Stepping.{reverse_more, fresh_at, marked_taken, marked_banned, taken_next, banned_next}
+use Rattle.reductions.proofs.Stepping.{reverse_more, fresh_at, marked, taken_next, banned_next}
 use Rattle.reductions.proofs.trail.methods.replay.Goals as goal
 
 pub loop-step-preserved : goal.loop-step-preserved
@@ -18,7 +18,7 @@ loop-step-preserved c =
     let small : e.column < 256 = fresh_at t b xs k (step 0 false false) (rw c.as_slice-step-items.ensures.value c.requires.fresh) c.loop-step-test.true in
     record {
       taken = taken_next t (reverse (take k xs)) (reverse (take (k + 1) xs)) e (taken node) (taken after) more c.loop-step.invariant.taken
-          (λ i. marked_taken e.takes node.taken.on after.taken.on e.column i (omega (arith, node.taken.full)) c.mark.ensures.taken);
+          (marked node.taken after.taken e.takes e.column small c.mark.ensures.taken);
       banned = banned_next b (reverse (take k xs)) (reverse (take (k + 1) xs)) e (banned node) (banned after) more c.loop-step.invariant.banned
-          (λ i. marked_banned e.takes node.banned.on after.banned.on e.column i (omega (arith, node.banned.full)) c.mark.ensures.banned);
+          (marked node.banned after.banned (not e.takes) e.column small c.mark.ensures.banned);
     }
