@@ -1,9 +1,6 @@
 -- The steps of a search: what they keep, how many there can be, and how they stand in the table.
-use Rattle.std.proofs.Common.{◌≡◌, ℕ, zero, suc, ◌+◌, ◌-◌, ◌<◌, ◌≤◌, Bool, true, false, cond, not, ◌&&◌, ◌||◌, eqb, ltb, List, [], ◌∷◌, ◌++◌, length, reverse, take, drop, get_or, None, sym, refl, ap, ◌∙◌, subst, inl, inr, ⊎_elim, arith}
-use Rattle.std.specs.List.{slice_get}
+use Rattle.std.proofs.Common.{◌≡◌, ℕ, zero, suc, ◌+◌, ◌-◌, ◌<◌, ◌≤◌, Bool, true, false, cond, not, ◌&&◌, ◌||◌, eqb, ltb, List, [], ◌∷◌, ◌++◌, length, reverse, take, drop, get_or, sym, refl, ap, ◌∙◌, subst, inl, inr, ⊎_elim, arith}
 use Rattle.std.proofs.lemmas.List.{reverse-append, take-append-drop, take_more}
-use Rattle.std.proofs.lemmas.Option.{none-some, slice_get-get_or}
-use Rattle.fixed.specs.Lists.{pushed}
 use Rattle.std.proofs.lemmas.Bool.{cases_Bool, cases_lt, ne_eqb, or_parts, or_right, or_from, and_from, and_left, and_right, both_ways, and_parts, or_cases, eqb-true, lt-ltb, ltb-true, not-true, not_from_false, false≢true}
 use Rattle.charts.specs.Best.{Problem}
 use Rattle.charts.specs.Sets.{down, put}
@@ -92,16 +89,8 @@ module _ (p : Problem) (strict : Bool) (bound t b : ℕ → Bool) where
 pub reverse_push : (xs ys : List Step) (e : Step) → ys ≡ xs ++ e ∷ [] → reverse ys ≡ e ∷ reverse xs
 reverse_push xs ys e h = ap reverse h ∙ reverse-append xs (e ∷ [])
 
-pub reverse_pushed : (n : ℕ) (xs ys : List Step) (e : Step) → ys ≡ pushed n xs e → length xs < n → reverse ys ≡ e ∷ reverse xs
-reverse_pushed n xs ys e h l = reverse_push xs ys e (h ∙ ap (λ (v : Bool). cond v (xs ++ e ∷ []) xs) (lt-ltb (length xs) n l))
-
 pub reverse_more : (xs : List Step) (k : ℕ) (d : Step) → k < length xs → reverse (take (k + 1) xs) ≡ get_or xs k d ∷ reverse (take k xs)
 reverse_more xs k d l = reverse_push (take k xs) (take (k + 1) xs) (get_or xs k d) (take_more xs k d l)
-
--- no step came off: there was none
-pub nothing_popped : (xs : List Step) → None ≡ slice_get xs (length xs - 1) → xs ≡ []
-nothing_popped [] h = refl
-nothing_popped (e ∷ xs) h = absurd (none-some (get_or (e ∷ xs) (length (e ∷ xs) - 1) e) (h ∙ slice_get-get_or (e ∷ xs) (length (e ∷ xs) - 1) e (omega arith)))
 
 -- ---- each column was free
 pub free_parts : (t b : ℕ → Bool) (c : ℕ) → is_free t b c ≡ true → (c < 256) × (t c ≡ false) × (b c ≡ false)

@@ -1,10 +1,9 @@
-// The reductions at a node.
+// The reductions at a node. The order and the chart stay two parameters: in a struct of the two, each clause would name them by longer paths.
 ghost use Rattle.charts.specs.Best.{problem};
 ghost use Rattle.reductions.specs.Goals.{Narrowed};
 
 use crate::columns_left::{held_by, only_column};
-use crate::needs::methods::drop_needs;
-use crate::needs::open_needs;
+use crate::needs::methods::needs_to_hold;
 use crate::spare::is_spare;
 use crate::trail::Trail;
 use charts::Chart;
@@ -28,8 +27,7 @@ fn take_singles<O: CostOrder, C: Chart>(order: &O, chart: &C, trail: &mut Trail)
 fn drop_columns<O: CostOrder, C: Chart>(order: &O, chart: &C, trail: &mut Trail)
     ensures { Narrowed (problem (O.CostOrder.meaning order.now) (C.Chart.grid chart.now)) trail.old trail.new }
 {
-    let mut needs = open_needs(chart, &trail.node().taken);
-    drop_needs(chart, trail.node(), &mut needs);
+    let needs = needs_to_hold(chart, trail.node());
     // A loop, for the same reason.
     for column in 0..chart.columns() {
         if trail.is_free(column) && is_spare(order, chart, &trail.node().banned, &needs, column) {

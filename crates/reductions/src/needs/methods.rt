@@ -44,15 +44,16 @@ fn is_implied<C: Chart>(chart: &C, left_out: &ColumnSet, needs: &NeedSet, j: usi
         .any(|i| follows(chart, left_out, i, j))
 }
 
-// Leaves out each need that is held wherever another one is.
-pub(crate) fn drop_needs<C: Chart>(chart: &C, node: &Node, needs: &mut NeedSet)
-    requires { Enough (C.Chart.grid chart.now) (taken node.now) (banned node.now) (member needs.old) }
-    ensures { Enough (C.Chart.grid chart.now) (taken node.now) (banned node.now) (member needs.new) }
+// Needs that are enough at the node: the open ones, each left out that is held wherever another one is.
+pub(crate) fn needs_to_hold<C: Chart>(chart: &C, node: &Node) -> NeedSet
+    ensures { Enough (C.Chart.grid chart.now) (taken node.now) (banned node.now) (member result) }
 {
+    let mut needs = open_needs(chart, &node.taken);
     // A loop: each need that goes changes the set that the next turn asks.
     for need in 0..chart.needs() {
-        if needs.contains(need) && is_implied(chart, &node.banned, needs, need) {
+        if needs.contains(need) && is_implied(chart, &node.banned, &needs, need) {
             needs.remove(need);
         }
     }
+    needs
 }

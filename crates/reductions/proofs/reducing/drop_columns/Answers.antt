@@ -1,7 +1,6 @@
-use Rattle.std.proofs.Common.{◌≡◌, ℕ, ◌<◌, false, sym, subst, arith}
+use Rattle.std.proofs.Common.{◌<◌, false, sym, subst, arith}
 use Rattle.fixed.specs.Sets.{member}
 use Rattle.charts.specs.Best.{problem}
-use Rattle.charts.specs.Sets.{Held}
 use Rattle.reductions.specs.Goals.{Narrowed}
 use Rattle.reductions.specs.declared.node.Node.{Node}
 use Rattle.reductions.specs.declared.trail.Trail.{Trail}
@@ -9,25 +8,10 @@ use Rattle.reductions.specs.Spares.{Enough, Spare}
 use Rattle.reductions.specs.Trails.{taken, banned}
 use Rattle.reductions.proofs.Stepping.{free_parts}
 use Rattle.reductions.proofs.Reading.{spare_from}
-use Rattle.reductions.proofs.Narrowing.{spared, enough_open, enough_kept}
-use Rattle.reductions.proofs.Trailing.{narrowed_none, narrowed_more, narrowed_fix, fix_keeps_taken, fix_keeps_banned}
+use Rattle.reductions.proofs.Narrowing.{spared, enough_kept}
+use Rattle.reductions.proofs.Trailing.{narrowed_more, narrowed_fix, fix_keeps_taken, fix_keeps_banned}
 use Rattle.reductions.proofs.reducing.drop_columns.Goals as goal
 use Rattle.reductions.proofs.reducing.drop_columns.Goals.{then-is_free+then-is_spare, else-is_free}
-
-pub drop_needs-requires : goal.drop_needs-requires
-drop_needs-requires g c =
-    let m = g.C.Chart.grid c.args.chart.now in
-    let n = c.args.trail.now.node in
-    let ns = member c.open_needs-needs.result in
-    let Shut : Node → Type 0 = λ x. (i : ℕ) → i < m.wanted → ns i ≡ false → Held m (taken x) i in
-    let Stays : Node → Type 0 = λ x. Enough m (taken x) (banned x) ns in
-    subst Stays (sym c.node-2.ensures) (enough_open m (taken n) (banned n) ns (subst Shut c.node.ensures c.open_needs-needs.ensures.closed))
-
-pub loop-column-init : goal.loop-column-init
-loop-column-init g c =
-    let m = g.C.Chart.grid c.args.chart.now in
-    let Stays : Node → Type 0 = λ x. Enough m (taken x) (banned x) (member c.drop_needs.new.needs) in
-    (narrowed_none _ c.args.trail.now, subst Stays c.node-2.ensures c.drop_needs.ensures)
 
 pub loop-column-preserved : goal.loop-column-preserved
 loop-column-preserved g c =
@@ -36,7 +20,7 @@ loop-column-preserved g c =
     let p = problem (o.meaning c.args.order.now) m in
     let s = c.loop-column.trail in
     let a = c.loop-column.column in
-    let needs = c.drop_needs.new.needs in
+    let needs = c.needs_to_hold-needs.result in
     let ns = member needs in
     let la : a < m.width = omega (arith, c.columns-column-end.ensures) in
     let narrowed = c.loop-column.invariant.0 in

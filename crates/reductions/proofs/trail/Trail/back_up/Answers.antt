@@ -4,7 +4,7 @@ use Rattle.fixed.specs.Lists.{entries}
 use Rattle.fixed.specs.Sets.{member}
 use Rattle.reductions.specs.Steps.{is_fresh, backed}
 use Rattle.reductions.specs.Trails.{steps_of}
-use Rattle.reductions.proofs.Stepping.{fresh_back, nothing_popped}
+use Rattle.reductions.proofs.Stepping.{fresh_back}
 use Rattle.reductions.proofs.trail.Trail.back_up.Goals as goal
 
 pub replay-requires : goal.replay-requires
@@ -14,9 +14,3 @@ replay-requires c =
     let b = member s.root.banned in
     let turned : reverse (entries c.push.new.self) ≡ backed (steps_of s) = grind (arith, common_steps) in
     record { fresh = ap (is_fresh t b) turned ∙ fresh_back t b (steps_of s) s.fresh }
-
-pub returns-clause-owed : goal.returns-clause-owed
-returns-clause-owed c = let e = nothing_popped (entries c.loop-last.steps) c.in_default.ensures.last in grind (arith, common_steps)
-
-pub returns-clause-steps : goal.returns-clause-steps
-returns-clause-steps c = let e = nothing_popped (entries c.loop-last.steps) c.in_default.ensures.last in grind (arith, common_steps)

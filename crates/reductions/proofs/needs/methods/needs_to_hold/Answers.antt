@@ -4,9 +4,13 @@ use Rattle.fixed.specs.declared.set.FixedSet.{FixedSet}
 use Rattle.reductions.specs.Spares.{Enough}
 use Rattle.reductions.specs.Trails.{taken, banned}
 use Rattle.reductions.proofs.Reading.{implied_from}
-use Rattle.reductions.proofs.Narrowing.{enough_less}
-use Rattle.reductions.proofs.needs.methods.drop_needs.Goals as goal
-use Rattle.reductions.proofs.needs.methods.drop_needs.Goals.{then-contains+then-is_implied, else-contains}
+use Rattle.reductions.proofs.Narrowing.{enough_open, enough_less}
+use Rattle.reductions.proofs.needs.methods.needs_to_hold.Goals as goal
+use Rattle.reductions.proofs.needs.methods.needs_to_hold.Goals.{then-contains+then-is_implied, else-contains}
+
+pub loop-need-init : goal.loop-need-init
+loop-need-init g c =
+    enough_open (g.C.Chart.grid c.args.chart.now) (taken c.args.node.now) (banned c.args.node.now) (member c.open_needs-needs.result) c.open_needs-needs.ensures.closed
 
 pub loop-need-preserved : goal.loop-need-preserved
 loop-need-preserved g c =
