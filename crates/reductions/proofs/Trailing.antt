@@ -19,6 +19,9 @@ module _ (p : Problem) where
             (subst (λ (r : Node). Narrows p (taken r) (banned r) (steps_of u) (steps_of w)) m.root n.narrows);
       }
 
+  pub narrowed_twice : (s u v w : Trail) → Narrowed p s u → Narrowed p u v → Narrowed p v w → Narrowed p s w
+  narrowed_twice s u v w l m n = narrowed_more s u w l (narrowed_more u v w m n)
+
   module _ (s s' : Trail) (c : ℕ) (x : Bool) (root : s'.root ≡ s.root)
       (steps : steps_of s' ≡ cond (is_free (taken s.node) (banned s.node) c) (step c x false ∷ steps_of s) (steps_of s)) where
     -- a column fixed for a good reason
