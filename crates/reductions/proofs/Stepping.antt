@@ -1,12 +1,15 @@
 -- The steps of a search: what they keep, how many there can be, and how they stand in the table.
-use Rattle.std.proofs.Common.{◌≡◌, ℕ, zero, suc, ◌+◌, ◌-◌, ◌<◌, ◌≤◌, Bool, true, false, cond, not, ◌&&◌, ◌||◌, eqb, ltb, ◌≢◌, List, [], ◌∷◌, length, get_or, set, sym, refl, ap, ◌∙◌, subst, inl, inr, ⊎_elim, add-one, arith, get_or-set_other, get_or-set_same}
-use Rattle.std.proofs.lemmas.Bool.{cases_Bool, cases_eq, or_parts, or_right, or_from, and_from, and_left, and_right, both_ways, and_parts, or_cases, eqb-true, lt-ltb, ltb-true, not-true, not_from_false, false≢true}
+use Rattle.std.proofs.Common.{◌≡◌, ℕ, zero, suc, ◌+◌, ◌-◌, ◌<◌, ◌≤◌, Bool, true, false, cond, not, ◌&&◌, ◌||◌, eqb, ltb, List, [], ◌∷◌, ◌++◌, length, reverse, take, drop, get_or, sym, refl, ap, ◌∙◌, subst, inl, inr, ⊎_elim, arith}
+use Rattle.std.proofs.lemmas.List.{reverse-append, take-append-drop, take_more}
+use Rattle.std.proofs.lemmas.Bool.{cases_Bool, cases_lt, ne_eqb, or_parts, or_right, or_from, and_from, and_left, and_right, both_ways, and_parts, or_cases, eqb-true, lt-ltb, ltb-true, not-true, not_from_false, false≢true}
 use Rattle.charts.specs.Best.{Problem}
 use Rattle.charts.specs.Sets.{down, put}
-use Rattle.fixed.proofs.Members.{put_in}
+use Rattle.fixed.proofs.Members.{none_past}
+use Rattle.fixed.specs.declared.set.FixedSet.{FixedSet}
+use Rattle.fixed.specs.Sets.{member}
 use Rattle.charts.proofs.Values.{down_same, down_short, more_members}
 use Rattle.reductions.specs.declared.step.Step.{Step}
-use Rattle.reductions.specs.Steps.{step, up_to, taken_by, banned_by, is_free, is_fresh, owes, backed}
+use Rattle.reductions.specs.Steps.{step, taken_by, banned_by, is_free, is_fresh, owes, backed}
 use Rattle.reductions.specs.Goals.{Good, Here, Owed, Somewhere, nodes, pending, turns}
 
 -- ---- where good sets are
@@ -80,6 +83,14 @@ module _ (p : Problem) (strict : Bool) (bound t b : ℕ → Bool) where
   pub gone : (r : List Step) (u v : ℕ → Bool) → ((k : ℕ) → u k ≡ taken_by t r k) → ((k : ℕ) → v k ≡ banned_by b r k) → ((d : ℕ → Bool) → Good p strict bound u v d → ⊥) → Somewhere p strict bound t b r → Owed p strict bound t b r
   gone r u v eu ev none (inl w) = absurd (none w.0 (good_like (taken_by t r) (banned_by b r) u v w.0 eu ev w.1))
   gone r u v eu ev none (inr h) = h
+
+-- ---- the steps in the order in which they came
+-- a step more at the end
+pub reverse_push : (xs ys : List Step) (e : Step) → ys ≡ xs ++ e ∷ [] → reverse ys ≡ e ∷ reverse xs
+reverse_push xs ys e h = ap reverse h ∙ reverse-append xs (e ∷ [])
+
+pub reverse_more : (xs : List Step) (k : ℕ) (d : Step) → k < length xs → reverse (take (k + 1) xs) ≡ get_or xs k d ∷ reverse (take k xs)
+reverse_more xs k d l = reverse_push (take k xs) (take (k + 1) xs) (get_or xs k d) (take_more xs k d l)
 
 -- ---- each column was free
 pub free_parts : (t b : ℕ → Bool) (c : ℕ) → is_free t b c ≡ true → (c < 256) × (t c ≡ false) × (b c ≡ false)
@@ -161,14 +172,18 @@ module _ (t b : ℕ → Bool) where
   pub fresh_room : (r : List Step) (c : ℕ) → is_free (taken_by t r) (banned_by b r) c ≡ true → is_fresh t b r ≡ true → length r < 256
   fresh_room r c h f = fresh_short (step c false false ∷ r) (fresh_more (step c false false) r h f)
 
+  -- the steps before them were fresh too
+  fresh_rest : (a r : List Step) → is_fresh t b (a ++ r) ≡ true → is_fresh t b r ≡ true
+  fresh_rest [] r h = h
+  fresh_rest (e ∷ a) r h = fresh_rest a r (fresh_tail e (a ++ r) h)
+
   -- each step's column is one of 256
-  pub fresh_at : (ss : List Step) (n k : ℕ) → is_fresh t b (up_to ss n) ≡ true → k < n → (get_or ss k (step 0 false false)).column < 256
-  fresh_at ss zero k f l = absurd (omega arith)
-  fresh_at ss (suc n) k f l =
-      ⊎_elim
-      (λ (q : k ≡ n). subst (λ (i : ℕ). (get_or ss i (step 0 false false)).column < 256) (sym q) (free_parts (taken_by t (up_to ss n)) (banned_by b (up_to ss n)) (get_or ss n (step 0 false false)).column (fresh_head (get_or ss n (step 0 false false)) (up_to ss n) f)).0)
-      (λ (q : k ≡ n → ⊥). fresh_at ss n k (fresh_tail (get_or ss n (step 0 false false)) (up_to ss n) f) (omega arith))
-      (cases_eq k n)
+  pub fresh_at : (xs : List Step) (k : ℕ) (d : Step) → is_fresh t b (reverse xs) ≡ true → k < length xs → (get_or xs k d).column < 256
+  fresh_at xs k d h l =
+      let some : reverse xs ≡ reverse (drop (k + 1) xs) ++ reverse (take (k + 1) xs) = ap reverse (sym (take-append-drop (k + 1) xs)) ∙ reverse-append (take (k + 1) xs) (drop (k + 1) xs) in
+      let fresh = fresh_rest (reverse (drop (k + 1) xs)) (reverse (take (k + 1) xs)) (sym (ap (is_fresh t b) some) ∙ h) in
+      let last = sym (ap (is_fresh t b) (reverse_more xs k d l)) ∙ fresh in
+      (free_parts (taken_by t (reverse (take k xs))) (banned_by b (reverse (take k xs))) (get_or xs k d).column (fresh_head (get_or xs k d) (reverse (take k xs)) last)).0
 
 -- ---- the measure
 nodes_pos : (k : ℕ) → 0 < nodes k
@@ -200,47 +215,14 @@ turns_split n r = omega (arith, nodes_pos (n - length r))
 pub turns_back : (n : ℕ) (r : List Step) → owes r ≡ true → turns n (backed r) < turns n r
 turns_back n r h = omega (arith, turns_back_le n r h, turns_split n r)
 
--- ---- places in the table
-pub length_up_to : (ss : List Step) (k : ℕ) → length (up_to ss k) ≡ k
-length_up_to ss zero = refl
-length_up_to ss (suc k) = ap suc (length_up_to ss k)
-
-up_to_set : (ss : List Step) (k i : ℕ) (e : Step) → k ≤ i → up_to (set ss i e) k ≡ up_to ss k
-up_to_set ss zero i e h = refl
-up_to_set ss (suc k) i e h =
-    let ne : k ≢ i = omega arith in
-    let le : k ≤ i = omega arith in
-    rw (get_or-set_other ss i k e (step 0 false false) ne, up_to_set ss k i e le)
-
--- a step written at the top
-pub up_to_push : (ss : List Step) (k : ℕ) (e : Step) → k < length ss → up_to (set ss k e) (k + 1) ≡ e ∷ up_to ss k
-up_to_push ss k e h =
-    let le : k ≤ k = omega arith in
-    ap (up_to (set ss k e)) (add-one k) ∙ rw (get_or-set_same ss k e (step 0 false false) h, up_to_set ss k k e le)
-
--- the last step decides nothing: go on below it
-pub back_pass : (ss : List Step) (k : ℕ) → (get_or ss k (step 0 false false)).decided ≡ false → (owes (up_to ss (suc k)) ≡ owes (up_to ss k)) × (backed (up_to ss (suc k)) ≡ backed (up_to ss k))
-back_pass ss k e =
-    let r = up_to ss k in
-    let c = (get_or ss k (step 0 false false)).column in
-    (ap (λ (v : Bool). v || owes r) e, ap (λ (v : Bool). cond v (step c false false ∷ r) (backed r)) e)
-
--- the last step is a decision
-pub back_here : (ss : List Step) (k : ℕ) → (get_or ss k (step 0 false false)).decided ≡ true
-    → (owes (up_to ss (suc k)) ≡ true) × (backed (up_to ss (suc k)) ≡ step (get_or ss k (step 0 false false)).column false false ∷ up_to ss k)
-back_here ss k e =
-    let r = up_to ss k in
-    let c = (get_or ss k (step 0 false false)).column in
-    (ap (λ (v : Bool). v || owes r) e, ap (λ (v : Bool). cond v (step c false false ∷ r) (backed r)) e)
-
 -- ---- a column marked at a node
-pub marked_taken : (v : Bool) (xs ys : List Bool) (c k : ℕ) → c < length xs → ys ≡ cond v (set xs c true) xs → get_or ys k false ≡ ((v && eqb c k) || get_or xs k false)
-marked_taken true xs ys c k h e = ap (λ (zs : List Bool). get_or zs k false) e ∙ put_in xs c k h
-marked_taken false xs ys c k h e = ap (λ (zs : List Bool). get_or zs k false) e
-
-pub marked_banned : (v : Bool) (xs ys : List Bool) (c k : ℕ) → c < length xs → ys ≡ cond v xs (set xs c true) → get_or ys k false ≡ ((not v && eqb c k) || get_or xs k false)
-marked_banned true xs ys c k h e = ap (λ (zs : List Bool). get_or zs k false) e
-marked_banned false xs ys c k h e = ap (λ (zs : List Bool). get_or zs k false) e ∙ put_in xs c k h
+-- the column is one of 256, so past them nothing changes
+pub marked : (s s' : FixedSet 256) (v : Bool) (c : ℕ) → c < 256 → ((k : ℕ) → k < 256 → member s' k ≡ ((v && eqb c k) || member s k)) → (k : ℕ) → member s' k ≡ ((v && eqb c k) || member s k)
+marked s s' v c small h k =
+    elim (cases_lt k 256) [
+      | inl l ↦ h k l
+      | inr l ↦ none_past 256 s' k l ∙ sym (or_from (v && eqb c k) (member s k) (and_right v (eqb c k) (ne_eqb c k (λ e. absurd (omega arith)))) (none_past 256 s k l))
+    ]
 
 -- free at a node that the steps lead to
 pub free_like : (t b : ℕ → Bool) (r : List Step) (c : ℕ) (u v : ℕ → Bool) → ((k : ℕ) → u k ≡ taken_by t r k) → ((k : ℕ) → v k ≡ banned_by b r k) → is_free u v c ≡ true → is_free (taken_by t r) (banned_by b r) c ≡ true

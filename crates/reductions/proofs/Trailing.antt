@@ -1,5 +1,5 @@
 -- The reductions along a trail.
-use Rattle.std.proofs.Common.{◌≡◌, ℕ, ◌<◌, Bool, true, false, cond, not, ◌&&◌, eqb, List, ◌∷◌, length, sym, refl, ap, ◌∙◌, subst}
+use Rattle.std.proofs.Common.{◌≡◌, ℕ, Bool, true, false, cond, not, ◌&&◌, eqb, List, ◌∷◌, sym, ap, ◌∙◌, subst}
 use Rattle.std.proofs.lemmas.Bool.{or_right}
 use Rattle.charts.specs.Best.{Problem}
 use Rattle.reductions.specs.declared.node.Node.{Node}
@@ -7,13 +7,10 @@ use Rattle.reductions.specs.declared.step.Step.{Step}
 use Rattle.reductions.specs.declared.trail.Trail.{Trail}
 use Rattle.reductions.specs.Steps.{step, taken_by, banned_by, is_free}
 use Rattle.reductions.specs.Trails.{steps_of, taken, banned}
-use Rattle.reductions.specs.Goals.{Good, turns, Narrows, Narrowed}
-use Rattle.reductions.proofs.Narrowing.{narrows_none, narrows_more, narrows_fix}
+use Rattle.reductions.specs.Goals.{Good, Narrows, Narrowed}
+use Rattle.reductions.proofs.Narrowing.{narrows_more, narrows_fix}
 
 module _ (p : Problem) where
-  pub narrowed_none : (s : Trail) → Narrowed p s s
-  narrowed_none s = record { root = refl; narrows = narrows_none p (taken s.root) (banned s.root) (steps_of s) }
-
   pub narrowed_more : (s u w : Trail) → Narrowed p s u → Narrowed p u w → Narrowed p s w
   narrowed_more s u w m n =
       record {
@@ -21,6 +18,9 @@ module _ (p : Problem) where
         narrows = narrows_more p (taken s.root) (banned s.root) (steps_of s) (steps_of u) (steps_of w) m.narrows
             (subst (λ (r : Node). Narrows p (taken r) (banned r) (steps_of u) (steps_of w)) m.root n.narrows);
       }
+
+  pub narrowed_twice : (s u v w : Trail) → Narrowed p s u → Narrowed p u v → Narrowed p v w → Narrowed p s w
+  narrowed_twice s u v w l m n = narrowed_more s u w l (narrowed_more u v w m n)
 
   module _ (s s' : Trail) (c : ℕ) (x : Bool) (root : s'.root ≡ s.root)
       (steps : steps_of s' ≡ cond (is_free (taken s.node) (banned s.node) c) (step c x false ∷ steps_of s) (steps_of s)) where
@@ -54,7 +54,3 @@ module _ (p : Problem) where
         go : (y : Bool) → banned_by (banned s.root) (steps_of s) k ≡ true → banned_by (banned s.root) (cond y (step c x false ∷ steps_of s) (steps_of s)) k ≡ true
         go true e = or_right (not x && eqb c k) (banned_by (banned s.root) (steps_of s) k) e
         go false e = e
-
-  -- a pass that made steps brought the search nearer to its end
-  pub nearer : (s u w : Trail) → Narrowed p s u → Narrowed p u w → (length (steps_of w) ≡ length (steps_of s) → ⊥) → turns 256 (steps_of w) < turns 256 (steps_of s)
-  nearer s u w m n ne = (narrowed_more s u w m n).narrows.moves (λ e. ne (sym e))

@@ -1,8 +1,45 @@
 -- Which needs and columns a node can do without.
-use Rattle.std.specs.Prelude.{◌≡◌, ℕ, ◌<◌, Bool, true, false, ◌⊎◌}
+use Rattle.std.specs.Prelude.{◌≡◌, ℕ, ◌<◌, Bool, true, false, not, ◌||◌, ◌⊎◌, List, filter, ◌==◌}
+use Rattle.std.specs.List.{list_any, list_all, range_with_len}
 use Rattle.charts.specs.Grids.{Grid}
-use Rattle.charts.specs.Best.{Problem}
+use Rattle.charts.specs.Best.{Problem, columns}
 use Rattle.charts.specs.Sets.{Held}
+
+-- the needs of a chart, in order
+abbrev pub needs : Grid → List ℕ
+needs g = range_with_len 0 g.wanted
+
+-- the columns that are left for a need, where b are banned
+abbrev pub left_for : Grid → (ℕ → Bool) → ℕ → List ℕ
+left_for g b i = filter (λ c. g.held c i) (filter (λ c. not (b c)) (columns g))
+
+-- whether each column that is left for the need i holds the need j
+abbrev pub follows : Grid → (ℕ → Bool) → ℕ → ℕ → Bool
+follows g b i j = list_all (λ c. g.held c j) (left_for g b i)
+
+-- whether j follows from another of the needs ns
+abbrev pub is_implied : Grid → (ℕ → Bool) → (ℕ → Bool) → ℕ → Bool
+is_implied g b ns j = list_any (λ i. follows g b i j) (filter ns (filter (λ i. not (i == j)) (needs g)))
+
+-- whether the column a holds none of the needs ns
+abbrev pub is_useless : Grid → (ℕ → Bool) → ℕ → Bool
+is_useless g ns a = list_all (λ i. not (g.held a i)) (filter ns (needs g))
+
+-- whether the column k holds each of the needs ns that a holds
+abbrev pub stands_in : Grid → (ℕ → Bool) → ℕ → ℕ → Bool
+stands_in g ns a k = list_all (λ i. g.held k i) (filter (λ i. g.held a i) (filter ns (needs g)))
+
+-- whether the column k costs no more than a
+abbrev pub no_dearer : Problem → ℕ → ℕ → Bool
+no_dearer p k a = p.order.at_most (p.order.price (p.grid.term k)) (p.order.price (p.grid.term a))
+
+-- whether another column, which is not banned and no dearer, stands in for a
+abbrev pub is_outdone : Problem → (ℕ → Bool) → (ℕ → Bool) → ℕ → Bool
+is_outdone p b ns a = list_any (λ k. stands_in p.grid ns a k) (filter (λ k. no_dearer p k a) (filter (λ k. not (b k)) (filter (λ k. not (k == a)) (columns p.grid))))
+
+-- whether the column a can be done without
+abbrev pub is_spare : Problem → (ℕ → Bool) → (ℕ → Bool) → ℕ → Bool
+is_spare p b ns a = is_useless p.grid ns a || is_outdone p b ns a
 
 -- a set of columns that has t, lacks b and holds the needs ns holds all needs
 abbrev pub Enough : Grid → (ℕ → Bool) → (ℕ → Bool) → (ℕ → Bool) → Type 0

@@ -1,14 +1,9 @@
 -- The steps of a search, the last one first: which columns were taken or banned, in turn.
-use Rattle.std.specs.Prelude.{ℕ, zero, suc, Bool, true, false, cond, not, ◌&&◌, ◌||◌, List, [], ◌∷◌, ◌==◌, nat_lt, slice_index_or}
+use Rattle.std.specs.Prelude.{ℕ, Bool, true, false, cond, not, ◌&&◌, ◌||◌, List, [], ◌∷◌, ◌==◌, nat_lt}
 use Rattle.reductions.specs.declared.step.Step.{Step}
 
 abbrev pub step : ℕ → Bool → Bool → Step
 step c t d = record { column = c; takes = t; decided = d }
-
--- the first k steps of a table, the last one first
-abbrev pub up_to : List Step → ℕ → List Step
-up_to ss zero = []
-up_to ss (suc k) = slice_index_or ss k (step 0 false false) ∷ up_to ss k
 
 -- what is taken after the steps, where t was taken before them
 abbrev pub taken_by : (ℕ → Bool) → List Step → ℕ → Bool

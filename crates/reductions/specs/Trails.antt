@@ -1,10 +1,10 @@
 -- The trail of a search, by its steps.
-use Rattle.std.specs.Prelude.{ℕ, Bool, List}
+use Rattle.std.specs.Prelude.{ℕ, Bool, List, reverse}
+use Rattle.fixed.specs.Lists.{entries}
 use Rattle.fixed.specs.Sets.{member}
 use Rattle.reductions.specs.declared.node.Node.{Node}
 use Rattle.reductions.specs.declared.step.Step.{Step}
 use Rattle.reductions.specs.declared.trail.Trail.{Trail}
-use Rattle.reductions.specs.Steps.{up_to}
 
 -- the columns that a node has, and those that it lacks
 abbrev pub taken : Node → ℕ → Bool
@@ -15,4 +15,4 @@ banned n = member n.banned
 
 -- the steps since the root, the last one first
 abbrev pub steps_of : Trail → List Step
-steps_of t = up_to t.steps t.len
+steps_of t = reverse (entries t.steps)

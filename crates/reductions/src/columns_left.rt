@@ -19,6 +19,7 @@ pub fn held_by<C: Chart>(chart: &C, set: &ColumnSet, need: usize) -> bool
 pub(crate) fn only_column<C: Chart>(chart: &C, banned: &ColumnSet, need: usize) -> Option<usize>
     ensures { IfSome result (λ c. (c < (C.Chart.grid chart.now).width) × (member banned.now c ≡ false) × ((C.Chart.grid chart.now).held c need ≡ true) × ((k : ℕ) → k < (C.Chart.grid chart.now).width → (C.Chart.grid chart.now).held k need ≡ true → (member banned.now k ≡ true) ⊎ (k ≡ c))) }
 {
+    // A loop: what a chain gives at its second `next`, the check does not read off.
     let mut only = None;
     for c in 0..chart.columns() {
         if banned.contains(c) {

@@ -1,5 +1,6 @@
 // A node of the search.
-ghost use Rattle.std.specs.Prelude.{◌≡◌, true, set, if◌then◌else◌, slice_set};
+ghost use Rattle.std.specs.Prelude.{◌≡◌, ℕ, ◌<◌, not, ◌&&◌, ◌||◌, ◌==◌};
+ghost use Rattle.fixed.specs.Sets.{member};
 
 use charts::ColumnSet;
 
@@ -13,8 +14,8 @@ pub struct Node {
 impl Node {
     // Takes a column, or bans it.
     pub fn mark(&mut self, column: usize, takes: bool)
-        ensures taken { self.new.taken.on ≡ (if takes then slice_set self.old.taken.on column true else self.old.taken.on) }
-        ensures banned { self.new.banned.on ≡ (if takes then self.old.banned.on else slice_set self.old.banned.on column true) }
+        ensures taken { (k : ℕ) → k < 256 → member self.new.taken k ≡ ((takes && column == k) || member self.old.taken k) }
+        ensures banned { (k : ℕ) → k < 256 → member self.new.banned k ≡ ((not takes && column == k) || member self.old.banned k) }
     {
         if takes {
             self.taken.insert(column);

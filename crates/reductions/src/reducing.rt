@@ -1,10 +1,9 @@
-// The reductions at a node.
+// The reductions at a node. The order and the chart stay two parameters: in a struct of the two, each clause would name them by longer paths.
 ghost use Rattle.charts.specs.Best.{problem};
 ghost use Rattle.reductions.specs.Goals.{Narrowed};
 
 use crate::columns_left::{held_by, only_column};
-use crate::needs::methods::drop_needs;
-use crate::needs::open_needs;
+use crate::needs::methods::needs_to_hold;
 use crate::spare::is_spare;
 use crate::trail::Trail;
 use charts::Chart;
@@ -14,14 +13,13 @@ use orders::CostOrder;
 fn take_singles<O: CostOrder, C: Chart>(order: &O, chart: &C, trail: &mut Trail)
     ensures { Narrowed (problem (O.CostOrder.meaning order.now) (C.Chart.grid chart.now)) trail.old trail.new }
 {
-    for i in 0..chart.needs() {
-        if held_by(chart, &trail.node().taken, i) {
-            continue;
+    // A loop: each step changes the trail that the next turn asks.
+    for need in 0..chart.needs() {
+        if !held_by(chart, &trail.node().taken, need)
+            && let Some(column) = only_column(chart, &trail.node().banned, need)
+        {
+            trail.fix(column, true, false);
         }
-        let Some(column) = only_column(chart, &trail.node().banned, i) else {
-            continue;
-        };
-        trail.fix(column, true, false);
     }
 }
 
@@ -29,16 +27,12 @@ fn take_singles<O: CostOrder, C: Chart>(order: &O, chart: &C, trail: &mut Trail)
 fn drop_columns<O: CostOrder, C: Chart>(order: &O, chart: &C, trail: &mut Trail)
     ensures { Narrowed (problem (O.CostOrder.meaning order.now) (C.Chart.grid chart.now)) trail.old trail.new }
 {
-    let mut needs = open_needs(chart, &trail.node().taken);
-    drop_needs(chart, trail.node(), &mut needs);
-    for a in 0..chart.columns() {
-        if !trail.is_free(a) {
-            continue;
+    let needs = needs_to_hold(chart, trail.node());
+    // A loop, for the same reason.
+    for column in 0..chart.columns() {
+        if trail.is_free(column) && is_spare(order, chart, &trail.node().banned, &needs, column) {
+            trail.fix(column, false, false);
         }
-        if !is_spare(order, chart, &trail.node().banned, &needs, a) {
-            continue;
-        }
-        trail.fix(a, false, false);
     }
 }
 

@@ -1,10 +1,12 @@
 // The trail of a search.
-ghost use Rattle.std.specs.Prelude.{◌≡◌, ℕ, ◌≤◌, true};
+ghost use Rattle.std.specs.Prelude.{◌≡◌, ℕ, true, reverse};
+ghost use Rattle.fixed.specs.Lists.{entries};
 ghost use Rattle.fixed.specs.Sets.{member};
-ghost use Rattle.reductions.specs.Steps.{up_to, taken_by, banned_by, is_fresh};
+ghost use Rattle.reductions.specs.Steps.{taken_by, banned_by, is_fresh};
 
 use crate::node::Node;
 use crate::step::Step;
+use fixed::FixedList;
 
 pub mod methods;
 pub mod reading;
@@ -13,11 +15,9 @@ pub mod reading;
 #[derive(Clone, Copy)]
 pub struct Trail {
     root: Node,
-    steps: [Step; 256],
-    len: usize,
+    steps: FixedList<Step, 256>,
     node: Node,
-    ghost room: { len ≤ 256 },
-    ghost fresh: { is_fresh (member root.taken) (member root.banned) (up_to steps len) ≡ true },
-    ghost taken: { (k : ℕ) → member node.taken k ≡ taken_by (member root.taken) (up_to steps len) k },
-    ghost banned: { (k : ℕ) → member node.banned k ≡ banned_by (member root.banned) (up_to steps len) k },
+    ghost fresh: { is_fresh (member root.taken) (member root.banned) (reverse (entries steps)) ≡ true },
+    ghost taken: { (k : ℕ) → member node.taken k ≡ taken_by (member root.taken) (reverse (entries steps)) k },
+    ghost banned: { (k : ℕ) → member node.banned k ≡ banned_by (member root.banned) (reverse (entries steps)) k },
 }

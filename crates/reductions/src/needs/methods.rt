@@ -2,7 +2,7 @@
 ghost use Rattle.std.specs.Prelude.{◌≡◌, ℕ, ◌<◌, ◌≤◌, true, false, ◌⊎◌, not, ◌&&◌, nat_lt};
 ghost use Rattle.fixed.specs.Sets.{member};
 ghost use Rattle.charts.specs.Sets.{is_held, Held};
-ghost use Rattle.reductions.specs.Spares.{Enough, Implied};
+ghost use Rattle.reductions.specs.Spares.{Enough, follows, is_implied};
 ghost use Rattle.reductions.specs.Trails.{taken, banned};
 
 use crate::columns_left::held_by;
@@ -26,46 +26,34 @@ pub fn open_needs<C: Chart>(chart: &C, columns: &ColumnSet) -> NeedSet
 
 // Whether each column that is left for the need `i` holds the need `j`.
 fn follows<C: Chart>(chart: &C, left_out: &ColumnSet, i: usize, j: usize) -> bool
-    ensures { result ≡ true → (c : ℕ) → c < (C.Chart.grid chart.now).width → (C.Chart.grid chart.now).held c i ≡ true → (member left_out.now c ≡ true) ⊎ ((C.Chart.grid chart.now).held c j ≡ true) }
+    ensures { result ≡ follows (C.Chart.grid chart.now) (member left_out.now) i j }
 {
-    for c in 0..chart.columns() {
-        if !left_out.contains(c) && chart.holds(c, i) && !chart.holds(c, j) {
-            return false;
-        }
-    }
-    true
+    (0..chart.columns())
+        .filter(|column| !left_out.contains(*column))
+        .filter(|column| chart.holds(*column, i))
+        .all(|column| chart.holds(column, j))
 }
 
 // Whether the need is held wherever another of the needs is.
 fn is_implied<C: Chart>(chart: &C, left_out: &ColumnSet, needs: &NeedSet, j: usize) -> bool
-    ensures { result ≡ true → Implied (C.Chart.grid chart.now) (member left_out.now) (member needs.now) j }
+    ensures { result ≡ is_implied (C.Chart.grid chart.now) (member left_out.now) (member needs.now) j }
 {
-    for i in 0..chart.needs() {
-        if i == j {
-            continue;
-        }
-        if !needs.contains(i) {
-            continue;
-        }
-        if follows(chart, left_out, i, j) {
-            return true;
-        }
-    }
-    false
+    (0..chart.needs())
+        .filter(|i| *i != j)
+        .filter(|i| needs.contains(*i))
+        .any(|i| follows(chart, left_out, i, j))
 }
 
-// Leaves out each need that is held wherever another one is.
-pub(crate) fn drop_needs<C: Chart>(chart: &C, node: &Node, needs: &mut NeedSet)
-    requires { Enough (C.Chart.grid chart.now) (taken node.now) (banned node.now) (member needs.old) }
-    ensures { Enough (C.Chart.grid chart.now) (taken node.now) (banned node.now) (member needs.new) }
+// Needs that are enough at the node: the open ones, each left out that is held wherever another one is.
+pub(crate) fn needs_to_hold<C: Chart>(chart: &C, node: &Node) -> NeedSet
+    ensures { Enough (C.Chart.grid chart.now) (taken node.now) (banned node.now) (member result) }
 {
-    for j in 0..chart.needs() {
-        if !needs.contains(j) {
-            continue;
+    let mut needs = open_needs(chart, &node.taken);
+    // A loop: each need that goes changes the set that the next turn asks.
+    for need in 0..chart.needs() {
+        if needs.contains(need) && is_implied(chart, &node.banned, &needs, need) {
+            needs.remove(need);
         }
-        if !is_implied(chart, &node.banned, needs, j) {
-            continue;
-        }
-        needs.remove(j);
     }
+    needs
 }

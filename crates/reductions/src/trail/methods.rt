@@ -1,12 +1,14 @@
 // Moves of a search along its trail.
-ghost use Rattle.std.specs.Prelude.{◌≡◌, ℕ, ◌<◌, ◌≤◌, true, false, [], ◌∷◌, length, if◌then◌else◌, MatchOption, slice_index_or};
+ghost use Rattle.std.specs.Prelude.{◌≡◌, true, [], ◌∷◌, reverse, if◌then◌else◌};
+ghost use Rattle.fixed.specs.Lists.{entries};
 ghost use Rattle.fixed.specs.Sets.{member};
-ghost use Rattle.reductions.specs.Steps.{step, up_to, taken_by, banned_by, is_free, is_fresh, owes, backed};
+ghost use Rattle.reductions.specs.Steps.{step, is_free, is_fresh, owes, backed};
 ghost use Rattle.reductions.specs.Trails.{steps_of, taken, banned};
 
 use crate::node::Node;
 use crate::step::Step;
 use crate::trail::Trail;
+use fixed::FixedList;
 
 impl Trail {
     // No step yet.
@@ -14,15 +16,9 @@ impl Trail {
         ensures root { result.root ≡ root.now }
         ensures steps { steps_of result ≡ [] }
     {
-        let blank = Step {
-            column: 0,
-            takes: false,
-            decided: false,
-        };
         Trail {
             root: *root,
-            steps: [blank; 256],
-            len: 0,
+            steps: FixedList::new(),
             node: *root,
         }
     }
@@ -35,26 +31,13 @@ impl Trail {
         if !self.is_free(column) {
             return;
         }
-        let len = self.len;
-        self.steps[len] = Step {
+        let step = Step {
             column,
             takes,
             decided,
         };
-        self.len = len + 1;
+        self.steps.push(step).unwrap();
         self.node.mark(column, takes);
-    }
-
-    // The place of the last decision.
-    fn last_decision(&self) -> Option<usize>
-        ensures { MatchOption result ((owes (steps_of self.now) ≡ false) × (backed (steps_of self.now) ≡ [])) (λ k. (k < self.now.len) × (owes (steps_of self.now) ≡ true) × (backed (steps_of self.now) ≡ step (slice_index_or self.now.steps k (step 0 false false)).column false false ∷ up_to self.now.steps k)) }
-    {
-        for k in (0..self.len).rev() {
-            if self.steps[k].decided {
-                return Some(k);
-            }
-        }
-        None
     }
 
     // Turns the last decision, with all that came after it undone; with none left the trail is back at its root, and that is told.
@@ -63,35 +46,33 @@ impl Trail {
         ensures owed { result ≡ owes (steps_of self.old) }
         ensures steps { steps_of self.new ≡ backed (steps_of self.old) }
     {
-        let root = self.root;
-        let Some(k) = self.last_decision() else {
-            self.len = 0;
-            self.node = root;
-            return false;
-        };
-        let column = self.steps[k].column;
-        self.steps[k] = Step {
-            column,
-            takes: false,
-            decided: false,
-        };
-        self.len = k + 1;
-        let node = replay(&root, &self.steps, k + 1);
-        self.node = node;
-        true
+        let mut steps = self.steps;
+        while let Some(last) = steps.pop() {
+            if last.decided {
+                let turned = Step {
+                    takes: false,
+                    decided: false,
+                    ..last
+                };
+                steps.push(turned).unwrap();
+                *self = replay(self.root, steps);
+                return true;
+            }
+        }
+        *self = Trail::new(&self.root);
+        false
     }
 }
 
-// The node that the first n steps lead to.
-fn replay(root: &Node, steps: &[Step], n: usize) -> Node
-    requires room { n ≤ length steps.now }
-    requires fresh { is_fresh (member root.now.taken) (member root.now.banned) (up_to steps.now n) ≡ true }
-    ensures taken { (k : ℕ) → member result.taken k ≡ taken_by (member root.now.taken) (up_to steps.now n) k }
-    ensures banned { (k : ℕ) → member result.banned k ≡ banned_by (member root.now.banned) (up_to steps.now n) k }
+// The trail of the steps.
+fn replay(root: Node, steps: FixedList<Step, 256>) -> Trail
+    requires fresh { is_fresh (member root.taken) (member root.banned) (reverse (entries steps)) ≡ true }
+    ensures root { result.root ≡ root }
+    ensures steps { result.steps ≡ steps }
 {
-    let mut node = *root;
-    for k in 0..n {
-        node.mark(steps[k].column, steps[k].takes);
+    let mut node = root;
+    for step in steps.as_slice() {
+        node.mark(step.column, step.takes);
     }
-    node
+    Trail { root, steps, node }
 }

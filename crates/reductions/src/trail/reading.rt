@@ -18,7 +18,7 @@ impl Trail {
     pub fn len(&self) -> usize
         ensures { result ≡ length (steps_of self.now) }
     {
-        self.len
+        self.steps.len()
     }
 
     // Whether a column is neither taken nor banned.

@@ -1,49 +1,44 @@
-use Rattle.std.proofs.Common.{◌≡◌, ℕ, ◌<◌, false, sym, refl, subst, arith}
+use Rattle.std.proofs.Common.{◌<◌, false, sym, subst, arith}
 use Rattle.fixed.specs.Sets.{member}
 use Rattle.charts.specs.Best.{problem}
-use Rattle.charts.specs.Sets.{Held}
+use Rattle.reductions.specs.Goals.{Narrowed}
 use Rattle.reductions.specs.declared.node.Node.{Node}
+use Rattle.reductions.specs.declared.trail.Trail.{Trail}
 use Rattle.reductions.specs.Spares.{Enough, Spare}
 use Rattle.reductions.specs.Trails.{taken, banned}
 use Rattle.reductions.proofs.Stepping.{free_parts}
-use Rattle.reductions.proofs.Narrowing.{spared, enough_open, enough_kept}
-use Rattle.reductions.proofs.Trailing.{narrowed_none, narrowed_more, narrowed_fix, fix_keeps_taken, fix_keeps_banned}
+use Rattle.reductions.proofs.Reading.{spare_from}
+use Rattle.reductions.proofs.Narrowing.{spared, enough_kept}
+use Rattle.reductions.proofs.Trailing.{narrowed_more, narrowed_fix, fix_keeps_taken, fix_keeps_banned}
 use Rattle.reductions.proofs.reducing.drop_columns.Goals as goal
+use Rattle.reductions.proofs.reducing.drop_columns.Goals.{then-is_free+then-is_spare, else-is_free}
 
-pub drop_needs-requires : goal.drop_needs-requires
-drop_needs-requires g c =
-    let m = g.C.Chart.grid c.args.chart.now in
-    let n = c.args.trail.now.node in
-    let ns = member c.open_needs-needs.result in
-    let Shut : Node → Type 0 = λ x. (i : ℕ) → i < m.wanted → ns i ≡ false → Held m (taken x) i in
-    let Stays : Node → Type 0 = λ x. Enough m (taken x) (banned x) ns in
-    subst Stays (sym c.node-2.ensures) (enough_open m (taken n) (banned n) ns (subst Shut c.node.ensures c.open_needs-needs.ensures.closed))
-
-pub loop-a-init : goal.loop-a-init
-loop-a-init g c =
-    let m = g.C.Chart.grid c.args.chart.now in
-    let Stays : Node → Type 0 = λ x. Enough m (taken x) (banned x) (member c.drop_needs.new.needs) in
-    (narrowed_none _ c.args.trail.now, subst Stays c.node-2.ensures c.drop_needs.ensures)
-
-pub loop-a-preserved : goal.loop-a-preserved
-loop-a-preserved g c =
+pub loop-column-preserved : goal.loop-column-preserved
+loop-column-preserved g c =
     let o = g.O.CostOrder in
-    let laws = o.laws c.args.order.now in
     let m = g.C.Chart.grid c.args.chart.now in
     let p = problem (o.meaning c.args.order.now) m in
-    let s = c.loop-a.trail in
-    let s' = c.fix.new.self in
-    let a = c.loop-a.a in
-    let ns = member c.drop_needs.new.needs in
-    let la : a < m.width = omega (arith, c.columns-a-end.ensures) in
-    let free = free_parts (taken s.node) (banned s.node) a (sym c.if-not-is_free.ensures) in
-    let Spares : Node → Type 0 = λ x. Spare p (banned x) ns a in
-    let spare : Spares s.node = subst Spares c.node-in-loop-a.ensures (c.if-not-is_spare.ensures refl) in
-    let enough = c.loop-a.invariant.1 in (
-      narrowed_more p c.args.trail.now s s' c.loop-a.invariant.0
-          (narrowed_fix p s s' a false c.fix.ensures.root c.fix.ensures.steps
-          (λ st bd. spared p laws st bd (taken s.node) (banned s.node) ns enough a la free.1 spare)),
-      enough_kept m (taken s.node) (banned s.node) (taken s'.node) (banned s'.node) ns
-          (fix_keeps_taken p s s' a false c.fix.ensures.root c.fix.ensures.steps)
-          (fix_keeps_banned p s s' a false c.fix.ensures.root c.fix.ensures.steps) enough,
-    )
+    let s = c.loop-column.trail in
+    let a = c.loop-column.column in
+    let needs = c.needs_to_hold-needs.result in
+    let ns = member needs in
+    let la : a < m.width = omega (arith, c.columns-column-end.ensures) in
+    let narrowed = c.loop-column.invariant.0 in
+    let enough = c.loop-column.invariant.1 in
+    let Stays : Trail → Type 0 = λ x. Narrowed p c.args.trail.now x × Enough m (taken x.node) (banned x.node) ns in
+    elim c.if-is_free.branch [
+      | then-is_free+then-is_spare w ↦
+          let s' = w.fix.new.self in
+          let free = free_parts (taken s.node) (banned s.node) a (sym w.if-is_free.ensures) in
+          let Spares : Node → Type 0 = λ x. Spare p (banned x) ns a in
+          let spare : Spares s.node = subst Spares w.node-then-is_free.ensures (spare_from p (banned w.node-then-is_free.result.now) ns a (sym w.if-is_spare.ensures)) in
+          subst Stays (sym w.trail-is) (
+            narrowed_more p c.args.trail.now s s' narrowed
+                (narrowed_fix p s s' a false w.fix.ensures.root w.fix.ensures.steps
+                (λ st bd. spared p (o.laws c.args.order.now) st bd (taken s.node) (banned s.node) ns enough a la free.1 spare)),
+            enough_kept m (taken s.node) (banned s.node) (taken s'.node) (banned s'.node) ns
+                (fix_keeps_taken p s s' a false w.fix.ensures.root w.fix.ensures.steps)
+                (fix_keeps_banned p s s' a false w.fix.ensures.root w.fix.ensures.steps) enough,
+          )
+      | else-is_free w ↦ subst Stays (sym w.trail-is) c.loop-column.invariant
+    ]

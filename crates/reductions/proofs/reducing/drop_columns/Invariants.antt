@@ -5,7 +5,7 @@ use Rattle.reductions.specs.Spares.{Enough}
 use Rattle.reductions.specs.Trails.{taken, banned}
 use Rattle.reductions.proofs.reducing.drop_columns.Given as goal
 
-abbrev pub invariant-loop-a : goal.invariant-loop-a
-invariant-loop-a g l =
+abbrev pub invariant-loop-column : goal.invariant-loop-column
+invariant-loop-column g l =
     Narrowed (problem (g.O.CostOrder.meaning l.order) (g.C.Chart.grid l.chart)) l.initial.trail l.trail
     × Enough (g.C.Chart.grid l.chart) (taken l.trail.node) (banned l.trail.node) (member l.needs)

@@ -2,5 +2,5 @@ use Rattle.charts.specs.Best.{problem}
 use Rattle.reductions.specs.Goals.{Narrowed}
 use Rattle.reductions.proofs.reducing.take_singles.Given as goal
 
-abbrev pub invariant-loop-i : goal.invariant-loop-i
-invariant-loop-i g l = Narrowed (problem (g.O.CostOrder.meaning l.order) (g.C.Chart.grid l.chart)) l.initial.trail l.trail
+abbrev pub invariant-loop-need : goal.invariant-loop-need
+invariant-loop-need g l = Narrowed (problem (g.O.CostOrder.meaning l.order) (g.C.Chart.grid l.chart)) l.initial.trail l.trail

@@ -1,27 +1,24 @@
-use Rattle.std.proofs.Common.{◌+◌, ◌<◌, false, get_or, refl, ap, add-one, arith}
+use Rattle.std.proofs.Common.{◌+◌, ◌<◌, false, not, get_or, reverse, take}
 use Rattle.fixed.specs.Sets.{member}
-use Rattle.reductions.specs.Steps.{step, up_to}
+use Rattle.reductions.specs.Steps.{step}
 use Rattle.reductions.specs.Trails.{taken, banned}
-use Rattle.reductions.proofs.Stepping.{fresh_at, marked_taken, marked_banned, taken_next, banned_next}
+use Rattle.reductions.proofs.Stepping.{reverse_more, fresh_at, marked, taken_next, banned_next}
 use Rattle.reductions.proofs.trail.methods.replay.Goals as goal
 
-pub loop-k-init : goal.loop-k-init
-loop-k-init c = (λ i. refl, λ i. refl)
-
-pub loop-k-preserved : goal.loop-k-preserved
-loop-k-preserved c =
-    let ss = c.args.steps.now in
-    let k = c.loop-k.k in
-    let node = c.loop-k.node in
+pub loop-step-preserved : goal.loop-step-preserved
+loop-step-preserved c =
+    let xs = c.as_slice-step-items.result.now in
+    let k = c.loop-step.step-index in
+    let e = get_or xs k (step 0 false false) in
+    let node = c.loop-step.node in
     let after = c.mark.new.self in
-    let t = member c.args.root.now.taken in
-    let b = member c.args.root.now.banned in
-    let e = get_or ss k (step 0 false false) in
-    let l : k < c.args.n = c.loop-k-test.true in
-    let small = fresh_at t b ss c.args.n k c.requires.fresh l in
-    let up = ap (up_to ss) (add-one k) in (
-      taken_next t (up_to ss k) (up_to ss (k + 1)) e (taken node) (taken after) up c.loop-k.invariant.0
-          (λ i. marked_taken e.takes node.taken.on after.taken.on e.column i (omega (arith, node.taken.full)) c.mark.ensures.taken),
-      banned_next b (up_to ss k) (up_to ss (k + 1)) e (banned node) (banned after) up c.loop-k.invariant.1
-          (λ i. marked_banned e.takes node.banned.on after.banned.on e.column i (omega (arith, node.banned.full)) c.mark.ensures.banned),
-    )
+    let t = member c.args.root.taken in
+    let b = member c.args.root.banned in
+    let more = reverse_more xs k (step 0 false false) c.loop-step-test.true in
+    let small : e.column < 256 = fresh_at t b xs k (step 0 false false) (rw c.as_slice-step-items.ensures.value c.requires.fresh) c.loop-step-test.true in
+    record {
+      taken = taken_next t (reverse (take k xs)) (reverse (take (k + 1) xs)) e (taken node) (taken after) more c.loop-step.invariant.taken
+          (marked node.taken after.taken e.takes e.column small c.mark.ensures.taken);
+      banned = banned_next b (reverse (take k xs)) (reverse (take (k + 1) xs)) e (banned node) (banned after) more c.loop-step.invariant.banned
+          (marked node.banned after.banned (not e.takes) e.column small c.mark.ensures.banned);
+    }

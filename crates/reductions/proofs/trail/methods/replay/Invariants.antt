@@ -1,9 +1,12 @@
-use Rattle.std.proofs.Common.{◌≡◌, ℕ}
+use Rattle.std.proofs.Common.{◌≡◌, ℕ, take, reverse}
 use Rattle.fixed.specs.Sets.{member}
-use Rattle.reductions.specs.Steps.{up_to, taken_by, banned_by}
+use Rattle.reductions.specs.Steps.{taken_by, banned_by}
 use Rattle.reductions.proofs.trail.methods.replay.Given as goal
 
-abbrev pub invariant-loop-k : goal.invariant-loop-k
-invariant-loop-k l =
-    ((i : ℕ) → member l.node.taken i ≡ taken_by (member l.root.taken) (up_to l.steps l.k) i)
-    × ((i : ℕ) → member l.node.banned i ≡ banned_by (member l.root.banned) (up_to l.steps l.k) i)
+-- the steps so far lead to the node
+abbrev pub invariant-loop-step : goal.invariant-loop-step
+invariant-loop-step l =
+    record {
+      taken : (k : ℕ) → member l.node.taken k ≡ taken_by (member l.root.taken) (reverse (take l.step-index l.step-items)) k;
+      banned : (k : ℕ) → member l.node.banned k ≡ banned_by (member l.root.banned) (reverse (take l.step-index l.step-items)) k;
+    }
