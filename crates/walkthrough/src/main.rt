@@ -6,7 +6,7 @@ use orders::{Count, Longest, Price, cost};
 use primes::{PrimeList, Work, primes};
 use sources::{Call, Outcome, Source, TermList, TruthTable};
 use std::io;
-use terms::{Failure, Mark, Refusal, Term};
+use terms::{Failure, Refusal, Term};
 
 const OFF: usize = 0;
 
@@ -102,8 +102,7 @@ fn print_primes<S: Source>(rt: &HostRuntime, source: &S, work: Work) -> io::Resu
     }
     let mut list = PrimeList::new();
     if let Err(refusal) = primes(source, work, &mut list) {
-        let number = refusal.number();
-        return println!(rt; "    refused {number}");
+        return println!(rt; "    {refusal}");
     }
     for place in 0..list.count {
         let Some(prime) = list.get(place) else {
@@ -132,11 +131,7 @@ fn compare(rt: &HostRuntime, truth: &TruthTable) -> io::Result<()> {
 fn print_fill(rt: &HostRuntime, res: Result<(), Failure>) -> io::Result<()> {
     match res {
         Ok(()) => rt.println("  fill: done"),
-        Err(Failure::Refused(refusal)) => {
-            let number = refusal.number();
-            println!(rt; "  fill: refused {number}")
-        }
-        Err(Failure::OutOfMemory) => rt.println("  fill: out of memory"),
+        Err(failure) => println!(rt; "  fill: {failure}"),
     }
 }
 
@@ -166,10 +161,7 @@ fn pile(rt: &HostRuntime, truth: TruthTable) -> io::Result<()> {
 fn print_set(rt: &HostRuntime, res: Result<(), Refusal>) -> io::Result<()> {
     match res {
         Ok(()) => rt.println("  tie: done"),
-        Err(refusal) => {
-            let number = refusal.number();
-            println!(rt; "  tie: refused {number}")
-        }
+        Err(refusal) => println!(rt; "  tie: {refusal}"),
     }
 }
 
@@ -196,19 +188,8 @@ fn print_call(rt: &HostRuntime, call: Call) -> io::Result<()> {
 fn print_outcome(rt: &HostRuntime, outcome: Outcome) -> io::Result<()> {
     match outcome {
         Outcome::Done => rt.println("done"),
-        Outcome::Found(mark) => rt.println(word(mark)),
-        Outcome::Refused(refusal) => {
-            let number = refusal.number();
-            println!(rt; "refused {number}")
-        }
-    }
-}
-
-fn word(mark: Mark) -> &'static str {
-    match mark {
-        Mark::Off => "OFF",
-        Mark::On => "ON",
-        Mark::Free => "FREE",
+        Outcome::Found(mark) => rt.println(mark),
+        Outcome::Refused(refusal) => rt.println(refusal),
     }
 }
 
@@ -225,7 +206,7 @@ fn show<S: Source>(rt: &HostRuntime, source: &S, inputs: &[&str], output: &str) 
         };
         print!(rt; "  {row:>3}")?;
         show_levels(rt, row, inputs)?;
-        println!(rt; " -> {}", word(mark))?;
+        println!(rt; " -> {mark}")?;
     }
     Ok(())
 }
@@ -281,9 +262,6 @@ fn print_price(rt: &HostRuntime, price: &Price, terms: &[Term]) -> io::Result<()
 fn print_prices(rt: &HostRuntime, res: Result<(), Refusal>) -> io::Result<()> {
     match res {
         Ok(()) => rt.println("  set prices: done"),
-        Err(refusal) => {
-            let number = refusal.number();
-            println!(rt; "  set prices: refused {number}")
-        }
+        Err(refusal) => println!(rt; "  set prices: {refusal}"),
     }
 }

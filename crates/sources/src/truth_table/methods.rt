@@ -62,7 +62,7 @@ impl TruthTable {
         if row >= self.rows() {
             return Err(Refusal::NoSuchRow);
         }
-        let mark = Mark::from_code(code)?;
+        let mark = Mark::try_from(code)?;
         self.marks[row] = mark;
         Ok(())
     }
@@ -73,7 +73,7 @@ impl TruthTable {
         ensures after { table self.new ≡ settled (sweep_breaks (table self.old).inputs mask levels code) (table self.old) (with_rows (table self.old) mask levels (entered code)) }
     {
         let term = Term::new(self.inputs, mask, levels)?;
-        let mark = Mark::from_code(code)?;
+        let mark = Mark::try_from(code)?;
         let rows = self.rows();
         paint(&mut self.marks[0..rows], term, mark);
         Ok(())

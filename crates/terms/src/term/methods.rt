@@ -53,17 +53,14 @@ impl Term {
     pub fn is_earlier(self, other: Term) -> bool
         ensures { result ≡ earlier self other }
     {
-        self.number() < other.number()
+        self < other
     }
 
     // How the term is written at one input: `0` or `1` for the level it wants, `-` where it does not read the input.
     pub fn symbol(self, input: usize) -> u8
         ensures { result ≡ symbol self input }
     {
-        if input >= 8 {
-            return b'-';
-        }
-        if self.mask >> input & 1 == 0 {
+        if input >= 8 || self.mask >> input & 1 == 0 {
             return b'-';
         }
         b'0' + (self.levels >> input & 1)
