@@ -9,9 +9,5 @@ pub enum Call {
     Look { row: usize },
 }
 
-#[derive(Clone, Copy, PartialEq, Eq, Debug)]
-pub enum Outcome {
-    Done,
-    Found(Mark),
-    Refused(Refusal),
-}
+// What a call came to: the mark of a look, nothing of a call that writes, or why it was refused.
+pub type Outcome = Result<Option<Mark>, Refusal>;

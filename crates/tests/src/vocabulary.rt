@@ -38,10 +38,7 @@ fn malformed_terms(rt: HostRuntime) {
 }
 
 fn number_refusing(inputs: usize, mask: u8, levels: u8) -> u8 {
-    match Term::new(inputs, mask, levels) {
-        Ok(_) => 0,
-        Err(refusal) => u8::from(refusal),
-    }
+    Term::new(inputs, mask, levels).err().map_or(0, u8::from)
 }
 
 #[test]

@@ -41,10 +41,5 @@ fn mark_by(on: &[Term], free: &[Term], row: usize) -> Mark
 fn some_holds(terms: &[Term], row: usize) -> bool
     ensures { result ≡ some_holds (map bytes terms.now) row }
 {
-    for term in terms {
-        if term.holds(row) {
-            return true;
-        }
-    }
-    false
+    terms.iter().any(|term| term.holds(row))
 }

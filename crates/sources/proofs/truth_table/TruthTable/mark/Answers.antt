@@ -8,9 +8,9 @@ pub returns : goal.returns
 returns c =
     let n : ℕ = c.args.self.now.inputs in
     let h : c.args.row < 2 ^ n = omega arith in
-    let k = code_named c.args.code c.in_ok-mark.mark (sym c.in_ok-mark.ensures.value) in
+    let k = code_named c.args.code c.in_ok-self.field-0 (sym c.in_ok-self.ensures.value) in
     let e = mark_passes n c.args.row c.args.code h k.0 in
     record {
       result = rw e refl;
-      after = rw (e, k.1) (table_eq n _ _ (take-set-lt (2 ^ n) c.args.self.now.marks c.args.row c.in_ok-mark.mark h));
+      after = rw (e, k.1) (table_eq n _ _ (take-set-lt (2 ^ n) c.args.self.now.marks c.args.row c.in_ok-self.field-0 h));
     }
