@@ -46,8 +46,7 @@ impl<S: Source> Source for Complement<S> {
     }
 
     fn look(&self, row: usize) -> Result<Mark, Refusal> {
-        let mark = self.below.look(row)?;
-        Ok(opposite(mark))
+        self.below.look(row).map(opposite)
     }
 }
 

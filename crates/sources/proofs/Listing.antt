@@ -1,8 +1,7 @@
 -- Lists of terms, one term after the other.
-use Rattle.std.specs.Prelude.{◌≡◌, ℕ, suc, ◌^◌, ◌<◌, Bool, ◌||◌, List, [], ◌∷◌, ◌++◌, map, length, get_or, take, Ok}
-use Rattle.std.proofs.Common.{refl, sym, ap, ap₂, ◌∙◌, arith, take-suc}
+use Rattle.std.specs.Prelude.{◌≡◌, ℕ, ◌^◌, ◌<◌, Bool, ◌||◌, List, [], ◌∷◌, map, Ok}
+use Rattle.std.proofs.Common.{refl, sym, ap, ◌∙◌, arith}
 use Rattle.std.specs.List.{list_any}
-use Rattle.std.proofs.lemmas.List.{map-append}
 use Rattle.std.proofs.lemmas.List.FromFn.{get_or-map-range_with_len}
 use Rattle.terms.specs.declared.term.Term.{Term}
 use Rattle.terms.specs.Terms.{holds}
@@ -15,13 +14,6 @@ use Rattle.sources.proofs.Looking.{looked_in}
 pub some_holds-map : (ts : List Term) (row : ℕ) → some_holds (map bytes ts) row ≡ list_any (λ t. holds t row) ts
 some_holds-map [] row = refl
 some_holds-map (t ∷ ts) row = ap (λ (b : Bool). holds t row || b) (some_holds-map ts row)
-
--- the terms gathered so far
-pub gathered_more : (ts : List (ℕ × ℕ)) (i : ℕ) (d : ℕ × ℕ) (t : Term) (old new : List Term) → i < length ts → t.mask ≡ (get_or ts i d).0 → t.levels ≡ (get_or ts i d).1
-    → new ≡ old ++ (t ∷ []) → map bytes old ≡ take i ts → map bytes new ≡ take (suc i) ts
-gathered_more ts i d t old new h a b e w =
-    let q : bytes t ≡ get_or ts i d = ap₂ (λ (x y : ℕ). (x, y)) a b in
-    ap (map bytes) e ∙ map-append bytes old (t ∷ []) ∙ ap₂ (λ (xs ys : List (ℕ × ℕ)). xs ++ ys) w (ap (λ (x : ℕ × ℕ). x ∷ []) q) ∙ sym (take-suc ts i d h)
 
 -- a look at a row that is there gives the mark by the lists
 pub looked_listed : (n : ℕ) (on free : List (ℕ × ℕ)) (row : ℕ) → row < 2 ^ n → Ok (mark_by on free row) ≡ looked (listed n on free) row
