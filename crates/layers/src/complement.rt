@@ -7,7 +7,7 @@ use sources::Source;
 use terms::{Mark, Refusal};
 
 // It gives no way to write to what lies below.
-#[derive(Clone, Copy, Drop)]
+#[derive(Clone, Copy, Drop, Debug)]
 pub struct Complement<S> {
     below: S,
 }

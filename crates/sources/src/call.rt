@@ -1,7 +1,7 @@
 // A call on a truth table, with its arguments, and what it gave.
 use terms::{Mark, Refusal};
 
-#[derive(Clone, Copy, Debug)]
+#[derive(Clone, Copy, PartialEq, Eq, Debug)]
 pub enum Call {
     Size { inputs: usize },
     Mark { row: usize, code: usize },

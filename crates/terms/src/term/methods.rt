@@ -70,6 +70,7 @@ impl Term {
     pub fn written(self, heap: Global, inputs: usize) -> Result<String, AllocError>
         ensures { IfOk result (λ s. string_bytes s ≡ written inputs self) }
     {
+        // A loop: the check does not find what text a chain over a reversed range collects.
         let mut text = String::new(heap);
         for i in (0..inputs).rev() {
             text.push(char::from(self.symbol(i)))?;
