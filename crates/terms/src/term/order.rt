@@ -9,7 +9,7 @@ ghost use Rattle.terms.specs.Terms.{rank};
 use crate::term::Term;
 use std::cmp::Ordering;
 
-// Not derived: a derive reads the bytes, and that they tie only where the numbers do is a law that only `proofs/` can show.
+// Not derived: a derive compares the bytes, and that these tie where the numbers do is shown in `proofs/`, which no law of an impl can cite.
 impl PartialEq for Term {
     ghost eq = { on rank ◌==◌ };
 
