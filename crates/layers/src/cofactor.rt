@@ -7,7 +7,7 @@ pub mod methods;
 pub mod source;
 
 // Open, it passes everything. It gives no way to write to what lies below.
-#[derive(Clone, Copy, Drop)]
+#[derive(Clone, Copy, Drop, Debug)]
 pub struct Cofactor<S> {
     below: S,
     setting: Option<Setting>,

@@ -7,7 +7,7 @@ use sources::Source;
 use terms::{Mark, Refusal};
 
 // It gives no way to write to what lies below.
-#[derive(Clone, Copy, Drop)]
+#[derive(Clone, Copy, Drop, Debug)]
 pub struct Complement<S> {
     below: S,
 }
@@ -46,8 +46,7 @@ impl<S: Source> Source for Complement<S> {
     }
 
     fn look(&self, row: usize) -> Result<Mark, Refusal> {
-        let mark = self.below.look(row)?;
-        Ok(opposite(mark))
+        self.below.look(row).map(opposite)
     }
 }
 

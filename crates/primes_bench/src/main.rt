@@ -11,10 +11,7 @@ const TIMES: usize = 100;
 fn main(rt: HostRuntime) -> io::Result<()> {
     match run() {
         Ok(count) => println!(rt; "{TIMES} times, {count} primes each"),
-        Err(refusal) => {
-            let number = refusal.number();
-            println!(rt; "refused {number}")
-        }
+        Err(refusal) => println!(rt; "{refusal}"),
     }
 }
 

@@ -1,5 +1,5 @@
 -- A truth table follows the reference model, call by call.
-use Rattle.std.proofs.Common.{◌≡◌, ℕ, zero, suc, ◌+◌, ◌^◌, ◌<◌, ◌≤◌, Bool, true, false, cond, eqb, leb, List, [], ◌∷◌, ◌++◌, reverse, length, get_or, take, drop, set, Some, None, Option, sym, refl, ap, ◌∙◌, subst, ap₂, inl, inr, append_assoc, append-nil, add-zero, arith, length-set, drop_of_length-le, drop-cons, get_or-set_other, take-suc, get_or-set_same}
+use Rattle.std.proofs.Common.{◌≡◌, ℕ, zero, suc, ◌+◌, ◌^◌, ◌<◌, ◌≤◌, Bool, true, false, cond, eqb, leb, List, [], ◌∷◌, ◌++◌, reverse, length, get_or, take, drop, set, Some, None, Ok, Option, sym, refl, ap, ◌∙◌, subst, ap₂, inl, inr, append_assoc, append-nil, add-zero, arith, length-set, drop_of_length-le, drop-cons, get_or-set_other, take-suc, get_or-set_same}
 use mathlib.Core.List.{reverse_aux, reverse-append}
 use lib.ListN.{length-replicate, get_or-replicate}
 use Rattle.std.proofs.lemmas.Bool.{cases_eq, eq-eqb, ne_eqb, leb-false, lt-leb}
@@ -11,11 +11,9 @@ use Rattle.terms.specs.Terms.{agrees}
 use Rattle.terms.specs.Tables.{Table, mark_at, blank}
 use Rattle.sources.specs.declared.call.Call.{Call}
 use Rattle.sources.specs.declared.call.Call.TheVariants.{Size, Mark as MarkRow, Sweep, Look}
-use Rattle.sources.specs.declared.call.Outcome.{Outcome}
-use Rattle.sources.specs.declared.call.Outcome.TheVariants.{Done, Found}
-use Rattle.sources.specs.Rules.{settled}
+use Rattle.sources.specs.Rules.{judged, settled}
 use Rattle.sources.specs.Calls.{entered, painted, changed}
-use Rattle.sources.specs.Model.{breaks, resized, remarked, inputs_after, mark_after, given, concluded, answer, answers, Faithful}
+use Rattle.sources.specs.Model.{breaks, resized, remarked, inputs_after, mark_after, Outcome, given, answer, answers, Faithful}
 use Rattle.sources.proofs.Painting.{length_painted}
 
 -- the table is the model's after some calls
@@ -119,17 +117,17 @@ given_same : (tb : Table) (before : List Call) (c : Call) → Agrees tb before �
 given_same tb before (Size k) a e = refl
 given_same tb before (MarkRow row c) a e = refl
 given_same tb before (Sweep m l c) a e = refl
-given_same tb before (Look row) a e = ap Found (a.marks row (there (leb (2 ^ tb.inputs) row) e (leb-false (2 ^ tb.inputs) row)))
+given_same tb before (Look row) a e = ap Some (a.marks row (there (leb (2 ^ tb.inputs) row) e (leb-false (2 ^ tb.inputs) row)))
   where
     there : (b : Bool) → ◌≡◌ {A = Option Refusal} (cond b (Some NoSuchRow) None) None → (b ≡ false → row < 2 ^ tb.inputs) → row < 2 ^ tb.inputs
     there true e f = let z : ◌≡◌ {A = ℕ} 0 1 = cc in absurd (omega arith)
     there false e f = f refl
 
-pub answer_same : (tb : Table) (before : List Call) (c : Call) → Agrees tb before → concluded (breaks tb.inputs c) (given c (mark_at tb)) ≡ answer before c
-answer_same tb before c a = go (breaks tb.inputs c) refl ∙ ap (λ (n : ℕ). concluded (breaks n c) (given c (mark_after before))) a.inputs
+pub answer_same : (tb : Table) (before : List Call) (c : Call) → Agrees tb before → judged (breaks tb.inputs c) (given c (mark_at tb)) ≡ answer before c
+answer_same tb before c a = go (breaks tb.inputs c) refl ∙ ap (λ (n : ℕ). judged (breaks n c) (given c (mark_after before))) a.inputs
   where
-    go : (o : Option Refusal) → breaks tb.inputs c ≡ o → concluded o (given c (mark_at tb)) ≡ concluded o (given c (mark_after before))
-    go None e = given_same tb before c a e
+    go : (o : Option Refusal) → breaks tb.inputs c ≡ o → judged o (given c (mark_at tb)) ≡ judged o (given c (mark_after before))
+    go None e = ap Ok (given_same tb before c a e)
     go (Some x) e = refl
 
 -- ---- a whole run
@@ -162,7 +160,7 @@ unfolding answers
 length_answers before [] = refl
 length_answers before (c ∷ calls) = ap suc (length_answers (c ∷ before) calls)
 
-answers_at : (past before : List Call) (c : Call) (after : List Call) → get_or (answers past (before ++ c ∷ after)) (length before) Done ≡ answer (reverse_aux before past) c
+answers_at : (past before : List Call) (c : Call) (after : List Call) → get_or (answers past (before ++ c ∷ after)) (length before) (Ok None) ≡ answer (reverse_aux before past) c
 unfolding answers
 answers_at past [] c after = refl
 answers_at past (x ∷ before) c after = answers_at (x ∷ past) before c after
@@ -172,10 +170,10 @@ faithful calls outcomes e =
     record {
       count = ap length e ∙ length_answers [] calls;
       looks = λ before after row s h. at before (Look row) after s
-          ∙ ap (λ (b : Bool). concluded (cond b (Some NoSuchRow) None) (Found (mark_after (reverse before) row))) (lt-leb (2 ^ inputs_after (reverse before)) row h);
-      refusals = λ before after c x s b. at before c after s ∙ ap (λ (o : Option Refusal). concluded o (given c (mark_after (reverse before)))) b;
+          ∙ ap (λ (b : Bool). judged (cond b (Some NoSuchRow) None) (Some (mark_after (reverse before) row))) (lt-leb (2 ^ inputs_after (reverse before)) row h);
+      refusals = λ before after c x s b. at before c after s ∙ ap (λ (o : Option Refusal). judged o (given c (mark_after (reverse before)))) b;
     }
   where
-    at : (before : List Call) (c : Call) (after : List Call) → calls ≡ before ++ c ∷ after → get_or outcomes (length before) Done ≡ answer (reverse before) c
+    at : (before : List Call) (c : Call) (after : List Call) → calls ≡ before ++ c ∷ after → get_or outcomes (length before) (Ok None) ≡ answer (reverse before) c
     at before c after s =
-        ap₂ (λ (os : List Outcome) (n : ℕ). get_or os n Done) (e ∙ ap (answers []) s) refl ∙ answers_at [] before c after
+        ap₂ (λ (os : List Outcome) (n : ℕ). get_or os n (Ok None)) (e ∙ ap (answers []) s) refl ∙ answers_at [] before c after

@@ -1,11 +1,10 @@
 -- The rules, where a call passes them.
-use Rattle.std.specs.Prelude.{◌≡◌, ℕ, ◌^◌, ◌<◌, ◌≤◌, true, false, is_some, Some, None, Ok, Err, Option, refl}
+use Rattle.std.specs.Prelude.{◌≡◌, ℕ, ◌^◌, ◌<◌, ◌≤◌, true, is_some, Some, None, Ok, Option, refl}
 use Rattle.std.proofs.Common.{arith}
 use Rattle.std.proofs.lemmas.Bool.{lt-leb, le-ltb}
 use Rattle.std.specs.Option.{unwrap_or}
 use Rattle.terms.specs.declared.mark.Mark.{Mark}
 use Rattle.terms.specs.declared.mark.Mark.TheVariants.{Off}
-use Rattle.terms.specs.declared.refusal.Refusal.{Refusal}
 use Rattle.terms.specs.declared.refusal.Refusal.TheVariants.{NoSuchMark}
 use Rattle.terms.specs.Marks.{with_code}
 use Rattle.terms.specs.Rules.{mark_by_code}
@@ -27,18 +26,8 @@ code_named c m e = go (with_code c) e
     go None e = let z : ◌≡◌ {A = ℕ} 0 1 = cc in absurd (omega arith)
     go (Some x) e = (refl, cc)
 
-pub code_unnamed : (c : ℕ) (x : Refusal) → mark_by_code c ≡ Err x → (is_some (with_code c) ≡ false) × (x ≡ NoSuchMark)
-code_unnamed c x e = go (with_code c) e
-  where
-    go : (o : Option Mark) → Rattle.std.specs.Option.ok_or o NoSuchMark ≡ Err x → (is_some o ≡ false) × (x ≡ NoSuchMark)
-    go None e = (refl, cc)
-    go (Some y) e = let z : ◌≡◌ {A = ℕ} 0 1 = cc in absurd (omega arith)
-
 pub mark_passes : (n row c : ℕ) → row < 2 ^ n → is_some (with_code c) ≡ true → mark_breaks n row c ≡ None
 mark_passes n row c h e = rw (lt-leb (2 ^ n) row h, e) refl
-
-pub mark_unnamed : (n row c : ℕ) → row < 2 ^ n → is_some (with_code c) ≡ false → mark_breaks n row c ≡ Some NoSuchMark
-mark_unnamed n row c h e = rw (lt-leb (2 ^ n) row h, e) refl
 
 pub sweep_passes : (n m l c : ℕ) → true ≡ is_term n m l → is_some (with_code c) ≡ true → sweep_breaks n m l c ≡ None
 sweep_passes n m l c h e = rw (← h, e) refl

@@ -1,21 +1,17 @@
 -- The marks of a table after a call.
 use Rattle.std.proofs.Common.{◌≡◌, ℕ, zero, suc, ◌+◌, ◌-◌, ◌^◌, ◌≤◌, Bool, true, false, cond, List, [], ◌∷◌, ◌++◌, length, take, set, replicate, sym, refl, ap, ◌∙◌, ap₂, le_of_suc-le-suc, add-zero, arith, length-take-le, take_at, pow_mono}
+use Rattle.std.proofs.lemmas.List.{take-replicate}
 use Rattle.terms.specs.declared.mark.Mark.{Mark}
 use Rattle.terms.specs.declared.mark.Mark.TheVariants.{Off}
 use Rattle.terms.specs.Tables.{Table, blank}
 use Rattle.terms.specs.Terms.{agrees}
 use Rattle.sources.specs.Calls.{painted}
 
-pub take_replicate : {A : Type 0} (k m : ℕ) (a : A) → k ≤ m → take k (replicate m a) ≡ replicate k a
-take_replicate zero m a h = refl
-take_replicate (suc k) zero a h = absurd (omega arith)
-take_replicate (suc k) (suc m) a h = ap (λ xs. a ∷ xs) (take_replicate k m a (le_of_suc-le-suc h))
-
 pub table_eq : (n : ℕ) (xs ys : List Mark) → xs ≡ ys → ◌≡◌ {A = Table} (record { inputs = n; marks = xs }) (record { inputs = n; marks = ys })
 table_eq n xs ys e = ap (λ (zs : List Mark). record { inputs = n; marks = zs }) e
 
 pub blank_marks : (n : ℕ) → n ≤ 8 → ◌≡◌ {A = Table} (record { inputs = n; marks = take (2 ^ n) (replicate 256 Off) }) (blank n)
-blank_marks n h = table_eq n _ _ (take_replicate (2 ^ n) 256 Off (pow_mono {i = n} {j = 8} h))
+blank_marks n h = table_eq n _ _ (take-replicate (2 ^ n) 256 Off (pow_mono {i = n} {j = 8} h))
 
 -- the first k of the rows from r on are painted, the others not yet
 abbrev pub begun : (ℕ → Bool) → Mark → ℕ → ℕ → List Mark → List Mark

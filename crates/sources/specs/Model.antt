@@ -1,14 +1,12 @@
 -- The reference model of a sequence of calls on a new truth table: what stands after them, row by row.
-use Rattle.std.specs.Prelude.{◌≡◌, ℕ, ◌^◌, ◌<◌, cond, List, [], ◌∷◌, ◌++◌, reverse, length, Some, None, Option, ◌==◌, slice_index_or}
+use Rattle.std.specs.Prelude.{◌≡◌, ℕ, ◌^◌, ◌<◌, cond, List, [], ◌∷◌, ◌++◌, reverse, length, Some, None, Ok, Err, Option, Result, ◌==◌, slice_index_or}
 use Rattle.terms.specs.declared.mark.Mark.{Mark}
 use Rattle.terms.specs.declared.mark.Mark.TheVariants.{Off}
 use Rattle.terms.specs.declared.refusal.Refusal.{Refusal}
 use Rattle.terms.specs.Terms.{agrees}
 use Rattle.sources.specs.declared.call.Call.{Call}
 use Rattle.sources.specs.declared.call.Call.TheVariants.{Size, Mark as MarkRow, Sweep, Look}
-use Rattle.sources.specs.declared.call.Outcome.{Outcome}
-use Rattle.sources.specs.declared.call.Outcome.TheVariants.{Done, Found, Refused}
-use Rattle.sources.specs.Rules.{size_breaks, look_breaks, mark_breaks, sweep_breaks, settled}
+use Rattle.sources.specs.Rules.{size_breaks, look_breaks, mark_breaks, sweep_breaks, judged, settled}
 use Rattle.sources.specs.Calls.{entered}
 
 -- the rule that a call breaks on a function of n inputs, if any
@@ -42,21 +40,20 @@ unfoldable pub mark_after : List Call → ℕ → Mark
 mark_after [] r = Off
 mark_after (c ∷ before) r = let x = mark_after before r in settled (breaks (inputs_after before) c) x (remarked c r x)
 
--- what an accepted call gives, where f has the marks
-abbrev pub given : Call → (ℕ → Mark) → Outcome
-given (Size k) f = Done
-given (MarkRow row c) f = Done
-given (Sweep m l c) f = Done
-given (Look row) f = Found (f row)
+-- what a call came to: the mark of an accepted look, nothing of any other accepted call, or the refusal
+abbrev pub Outcome : Type 0
+Outcome = Result (Option Mark) Refusal
 
--- a call ends with its refusal where a rule is broken, else with what it gives
-abbrev pub concluded : Option Refusal → Outcome → Outcome
-concluded None o = o
-concluded (Some e) o = Refused e
+-- what an accepted call gives, where f has the marks
+abbrev pub given : Call → (ℕ → Mark) → Option Mark
+given (Size k) f = None
+given (MarkRow row c) f = None
+given (Sweep m l c) f = None
+given (Look row) f = Some (f row)
 
 -- the model's answer to a call after some others, the latest first
 abbrev pub answer : List Call → Call → Outcome
-answer before c = concluded (breaks (inputs_after before) c) (given c (mark_after before))
+answer before c = judged (breaks (inputs_after before) c) (given c (mark_after before))
 
 -- the model's answers to a list of calls, after some others
 unfoldable pub answers : List Call → List Call → List Outcome
@@ -68,6 +65,6 @@ answers before (c ∷ cs) = answer before c ∷ answers (c ∷ before) cs
 pub record Faithful (calls : List Call) (outcomes : List Outcome) : Type 0 where
   pub count : length outcomes ≡ length calls
   pub looks : (before after : List Call) (row : ℕ) → calls ≡ before ++ Look row ∷ after → row < 2 ^ inputs_after (reverse before)
-      → slice_index_or outcomes (length before) Done ≡ Found (mark_after (reverse before) row)
+      → slice_index_or outcomes (length before) (Ok None) ≡ Ok (Some (mark_after (reverse before) row))
   pub refusals : (before after : List Call) (c : Call) (e : Refusal) → calls ≡ before ++ c ∷ after → breaks (inputs_after (reverse before)) c ≡ Some e
-      → slice_index_or outcomes (length before) Done ≡ Refused e
+      → slice_index_or outcomes (length before) (Ok None) ≡ Err e

@@ -1,6 +1,6 @@
 -- The table that two lists of terms mean, each term a mask and levels.
-use Rattle.std.specs.Prelude.{◌≡◌, ℕ, ◌^◌, Bool, true, false, cond, ◌&&◌, ◌||◌, List, [], ◌∷◌, map, Some, None, Ok, Err, vec_items, Option, Result}
-use Rattle.std.specs.List.{range_with_len}
+use Rattle.std.specs.Prelude.{◌≡◌, ℕ, ◌^◌, Bool, cond, ◌&&◌, List, map, Some, None, Ok, Err, vec_items, Option, Result}
+use Rattle.std.specs.List.{range_with_len, list_any, list_all}
 use Rattle.terms.specs.declared.mark.Mark.{Mark}
 use Rattle.terms.specs.declared.mark.Mark.TheVariants.{Off, On, Free}
 use Rattle.terms.specs.declared.term.Term.{Term}
@@ -19,8 +19,7 @@ bytes t = (t.mask, t.levels)
 
 -- some term of the list holds row r
 abbrev pub some_holds : List (ℕ × ℕ) → ℕ → Bool
-some_holds [] r = false
-some_holds (t ∷ ts) r = agrees t.0 t.1 r || some_holds ts r
+some_holds ts r = list_any (λ t. agrees t.0 t.1 r) ts
 
 -- ON in a term of the first list, FREE only in one of the second, else OFF
 abbrev pub mark_by : List (ℕ × ℕ) → List (ℕ × ℕ) → ℕ → Mark
@@ -35,8 +34,7 @@ term_table s = listed s.inputs (map bytes (vec_items s.on)) (map bytes (vec_item
 
 -- every pair of bytes is a term of n inputs
 abbrev pub all_terms : ℕ → List (ℕ × ℕ) → Bool
-all_terms n [] = true
-all_terms n (t ∷ ts) = is_term n t.0 t.1 && all_terms n ts
+all_terms n ts = list_all (λ t. is_term n t.0 t.1) ts
 
 -- first the number of inputs, then the terms
 abbrev pub fill_breaks : ℕ → List (ℕ × ℕ) → List (ℕ × ℕ) → Option Refusal

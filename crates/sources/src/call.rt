@@ -1,7 +1,7 @@
 // A call on a truth table, with its arguments, and what it gave.
 use terms::{Mark, Refusal};
 
-#[derive(Clone, Copy, Debug)]
+#[derive(Clone, Copy, PartialEq, Eq, Debug)]
 pub enum Call {
     Size { inputs: usize },
     Mark { row: usize, code: usize },
@@ -9,9 +9,5 @@ pub enum Call {
     Look { row: usize },
 }
 
-#[derive(Clone, Copy, PartialEq, Eq, Debug)]
-pub enum Outcome {
-    Done,
-    Found(Mark),
-    Refused(Refusal),
-}
+// What a call came to: the mark of a look, nothing of a call that writes, or why it was refused.
+pub type Outcome = Result<Option<Mark>, Refusal>;

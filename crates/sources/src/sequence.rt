@@ -11,6 +11,7 @@ pub fn run_calls(heap: Global, calls: &[Call]) -> Result<Vec<Outcome>, AllocErro
     ensures value { IfOk result (λ v. v.items ≡ answers [] calls.now) }
     ensures law { IfOk result (λ v. Faithful calls.now v.items) }
 {
+    // A loop: each call changes the table, and of what such a closure returned a chain's proof would know nothing.
     let mut truth = TruthTable::new();
     let mut outcomes = Vec::new(heap);
     for call in calls {

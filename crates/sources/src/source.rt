@@ -22,20 +22,14 @@ pub trait Source {
     fn is_on(&self, row: usize) -> bool
         ensures { result ≡ on_at (meaning self.now) row }
     {
-        match self.look(row) {
-            Ok(mark) => mark.is_on(),
-            Err(_) => false,
-        }
+        self.look(row).is_ok_and(|mark| mark.is_on())
     }
 
     // Whether there is such a row and it is OFF.
     fn is_off(&self, row: usize) -> bool
         ensures { result ≡ off_at (meaning self.now) row }
     {
-        match self.look(row) {
-            Ok(mark) => mark.is_off(),
-            Err(_) => false,
-        }
+        self.look(row).is_ok_and(|mark| mark.is_off())
     }
 
     // the table that it stands for has 1 to 8 inputs, and a mark for each row

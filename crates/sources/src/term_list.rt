@@ -7,7 +7,8 @@ pub mod methods;
 pub mod source;
 
 // A row in a term of the first list is ON, a row only in a term of the second is FREE, every other row is OFF.
-#[derive(Drop)]
+// No model, as with the truth table: the law that each source owes fails at a bare table.
+#[derive(Drop, Debug)]
 pub struct TermList {
     inputs: usize,
     on: Vec<Term>,

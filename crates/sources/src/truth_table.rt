@@ -7,7 +7,8 @@ pub mod methods;
 pub mod source;
 
 // The marks from the 2^inputs-th on belong to no row.
-#[derive(Clone, Copy)]
+// No model: clauses would see a bare table, of any size, and there the law that each source owes (`proper`) fails.
+#[derive(Clone, Copy, Debug)]
 pub struct TruthTable {
     inputs: usize,
     marks: [Mark; 256],

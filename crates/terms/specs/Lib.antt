@@ -1,5 +1,6 @@
 pub mod Lists
 pub mod Refusals
+pub mod Failures
 pub mod Marks
 pub mod Rules
 pub mod Terms

@@ -1,5 +1,6 @@
 -- Marks: their codes, and the two questions that primes and covers ask of one.
-use Rattle.std.specs.Prelude.{◌≡◌, ℕ, Bool, true, false, cond, Some, None, Option, ◌==◌}
+use Rattle.std.specs.Prelude.{◌≡◌, ℕ, Bool, true, false, cond, List, Some, None, Option, ◌==◌}
+use lib.Chars.{codes}
 use Rattle.terms.specs.declared.mark.Mark.{Mark}
 use Rattle.terms.specs.declared.mark.Mark.TheVariants.{Off, On, Free}
 
@@ -19,6 +20,12 @@ with_code c =
 -- a mark has a code exactly when it is the mark with that code
 abbrev pub CodesTell : Type 0
 CodesTell = (m : Mark) (c : ℕ) → (with_code c ≡ Some m → code_of m ≡ c) × (code_of m ≡ c → with_code c ≡ Some m)
+
+-- how a mark is written: the only place that gives the words
+abbrev pub mark_text : Mark → List ℕ
+mark_text Off = codes "OFF"
+mark_text On = codes "ON"
+mark_text Free = codes "FREE"
 
 abbrev pub is_on : Mark → Bool
 is_on Off = false

@@ -1,5 +1,7 @@
 -- The numbers of the refusals: the only place that gives them.
-use Rattle.std.specs.Prelude.{ℕ}
+use Rattle.std.specs.Prelude.{ℕ, List, ◌++◌}
+use Rattle.std.specs.Fmt.{decimal}
+use lib.Chars.{codes}
 use Rattle.terms.specs.declared.refusal.Refusal.{Refusal}
 use Rattle.terms.specs.declared.refusal.Refusal.TheVariants.{InputsOutOfRange, NoSuchRow, NoSuchMark, MalformedTerm, TooManyPrimes, PriceTooHigh, NoSuchInput, OnlyInput, BadNameLine, MalformedLine, ContradictingLine, TextTooLong, BufferTooSmall}
 
@@ -17,3 +19,7 @@ refusal_number MalformedLine = 10
 refusal_number ContradictingLine = 11
 refusal_number TextTooLong = 12
 refusal_number BufferTooSmall = 13
+
+-- how a refusal is written
+abbrev pub refusal_text : Refusal → List ℕ
+refusal_text e = codes "refused " ++ decimal (refusal_number e)

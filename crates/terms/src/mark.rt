@@ -1,58 +1,69 @@
 // What a duty table asks of a row.
-ghost use Rattle.std.specs.Prelude.{◌≡◌};
-ghost use Rattle.terms.specs.Marks.{code_of, is_on, is_off, CodesTell};
+ghost use Rattle.std.specs.Prelude.{◌≡◌, Some};
+ghost use Rattle.terms.specs.Marks.{code_of, mark_text, is_on, is_off, CodesTell};
 ghost use Rattle.terms.specs.Rules.{mark_by_code};
 
 use crate::refusal::Refusal;
+use std::fmt;
 
 // Off: the output stays 0. On: it must be 1. Free: it makes no odds, a don't-care.
 #[derive(Clone, Copy, PartialEq, Eq, Debug)]
 pub enum Mark {
-    Off,
-    On,
-    Free,
+    Off = 0,
+    On = 1,
+    Free = 2,
 }
 
 impl Mark {
-    // The code by which the mark is entered.
-    pub fn code(self) -> usize
-        ensures { result ≡ code_of self }
+    pub fn is_on(self) -> bool
+        ensures { result ≡ is_on self }
     {
-        match self {
-            Mark::Off => 0,
-            Mark::On => 1,
-            Mark::Free => 2,
-        }
+        matches!(self, Mark::On)
     }
 
-    // The mark that is entered by a code.
-    pub fn from_code(number: usize) -> Result<Mark, Refusal>
-        ensures value { result ≡ mark_by_code number }
+    pub fn is_off(self) -> bool
+        ensures { result ≡ is_off self }
+    {
+        matches!(self, Mark::Off)
+    }
+}
+
+// The code by which the mark is entered.
+impl From<Mark> for usize {
+    ghost from_gives = { λ mark code. code ≡ code_of mark };
+
+    fn from(mark: Mark) -> usize {
+        mark as usize
+    }
+}
+
+// The mark that is entered by a code.
+impl TryFrom<usize> for Mark {
+    type Error = Refusal;
+
+    ghost try_from_gives = { λ code r. r ≡ mark_by_code code };
+
+    fn try_from(code: usize) -> Result<Mark, Refusal>
+        ensures value { result ≡ mark_by_code code }
         ensures law { CodesTell }
     {
-        match number {
+        match code {
             0 => Ok(Mark::Off),
             1 => Ok(Mark::On),
             2 => Ok(Mark::Free),
             _ => Err(Refusal::NoSuchMark),
         }
     }
+}
 
-    pub fn is_on(self) -> bool
-        ensures { result ≡ is_on self }
-    {
-        match self {
-            Mark::On => true,
-            Mark::Off | Mark::Free => false,
-        }
-    }
+impl fmt::Display for Mark {
+    ghost output = { λ mark. Some (mark_text mark) };
 
-    pub fn is_off(self) -> bool
-        ensures { result ≡ is_off self }
-    {
-        match self {
-            Mark::Off => true,
-            Mark::On | Mark::Free => false,
-        }
+    fn fmt<W: fmt::Write>(&self, f: &mut fmt::Formatter<W>) -> fmt::Result {
+        f.write_str(match self {
+            Mark::Off => "OFF",
+            Mark::On => "ON",
+            Mark::Free => "FREE",
+        })
     }
 }

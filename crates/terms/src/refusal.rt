@@ -1,56 +1,55 @@
 // Why a call was refused. A refused call leaves everything it was given as it was.
-ghost use Rattle.std.specs.Prelude.{◌≡◌};
-ghost use Rattle.terms.specs.Refusals.{refusal_number};
+ghost use Rattle.std.specs.Prelude.{◌≡◌, Some};
+ghost use Rattle.terms.specs.Refusals.{refusal_number, refusal_text};
+
+use std::error::Error;
+use std::fmt;
 
 #[derive(Clone, Copy, PartialEq, Eq, Debug)]
 pub enum Refusal {
     // the number of inputs is not 1 to 8
-    InputsOutOfRange,
+    InputsOutOfRange = 1,
     // the function has no such row
-    NoSuchRow,
+    NoSuchRow = 2,
     // no mark has this code
-    NoSuchMark,
+    NoSuchMark = 3,
     // a term reads an input that is not there, or has a level outside its mask
-    MalformedTerm,
+    MalformedTerm = 4,
     // the function has more than 256 primes
-    TooManyPrimes,
+    TooManyPrimes = 5,
     // a price is above 1,000
-    PriceTooHigh,
+    PriceTooHigh = 6,
     // there is no such input to hold at a level
-    NoSuchInput,
+    NoSuchInput = 7,
     // the only input cannot be held at a level
-    OnlyInput,
+    OnlyInput = 8,
     // the name line of a table text is bad
-    BadNameLine,
+    BadNameLine = 9,
     // a line of a table text is malformed
-    MalformedLine,
+    MalformedLine = 10,
     // a line of a table text contradicts an earlier one
-    ContradictingLine,
+    ContradictingLine = 11,
     // a table text has more than 8,192 bytes
-    TextTooLong,
+    TextTooLong = 12,
     // the text does not fit the buffer
-    BufferTooSmall,
+    BufferTooSmall = 13,
 }
 
-impl Refusal {
-    // The number by which the refusal is reported.
-    pub fn number(self) -> u8
-        ensures { result ≡ refusal_number self }
-    {
-        match self {
-            Refusal::InputsOutOfRange => 1,
-            Refusal::NoSuchRow => 2,
-            Refusal::NoSuchMark => 3,
-            Refusal::MalformedTerm => 4,
-            Refusal::TooManyPrimes => 5,
-            Refusal::PriceTooHigh => 6,
-            Refusal::NoSuchInput => 7,
-            Refusal::OnlyInput => 8,
-            Refusal::BadNameLine => 9,
-            Refusal::MalformedLine => 10,
-            Refusal::ContradictingLine => 11,
-            Refusal::TextTooLong => 12,
-            Refusal::BufferTooSmall => 13,
-        }
+// The number by which the refusal is reported.
+impl From<Refusal> for u8 {
+    ghost from_gives = { λ refusal number. number ≡ refusal_number refusal };
+
+    fn from(refusal: Refusal) -> u8 {
+        refusal as u8
     }
 }
+
+impl fmt::Display for Refusal {
+    ghost output = { λ refusal. Some (refusal_text refusal) };
+
+    fn fmt<W: fmt::Write>(&self, f: &mut fmt::Formatter<W>) -> fmt::Result {
+        write!(f, "refused {}", u8::from(*self))
+    }
+}
+
+impl Error for Refusal {}

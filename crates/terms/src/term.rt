@@ -2,6 +2,7 @@
 ghost use Rattle.std.specs.Prelude.{◌≡◌, ◌<◌, bit_and};
 
 pub mod methods;
+pub mod order;
 
 // Bit i of the mask says that input i is read; bit i of the levels is the level that is wanted of it.
 #[derive(Clone, Copy, Debug)]

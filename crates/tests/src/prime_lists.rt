@@ -7,11 +7,11 @@ use terms::Refusal;
 fn table(inputs: usize, on: &[usize], free: &[usize]) -> Result<TruthTable, Refusal> {
     let mut truth = TruthTable::new();
     truth.size(inputs)?;
-    for row in on {
-        truth.mark(*row, 1)?;
+    for &row in on {
+        truth.mark(row, 1)?;
     }
-    for row in free {
-        truth.mark(*row, 2)?;
+    for &row in free {
+        truth.mark(row, 2)?;
     }
     Ok(truth)
 }
@@ -21,7 +21,7 @@ fn symmetric(inputs: usize, low: u32, high: u32) -> Result<TruthTable, Refusal> 
     let mut truth = TruthTable::new();
     truth.size(inputs)?;
     for row in 0..truth.rows() {
-        if row.count_ones() >= low && row.count_ones() <= high {
+        if (low..=high).contains(&row.count_ones()) {
             truth.mark(row, 1)?;
         }
     }
@@ -32,28 +32,20 @@ fn symmetric(inputs: usize, low: u32, high: u32) -> Result<TruthTable, Refusal> 
 fn counts(truth: &TruthTable, work: Work) -> Result<(usize, usize), Refusal> {
     let mut list = PrimeList::new();
     primes(truth, work, &mut list)?;
-    let mut essentials = 0usize;
-    for place in 0..256 {
-        if is_essential(&list, place) {
-            essentials = essentials.saturating_add(1);
-        }
-    }
+    let essentials = (0..list.count)
+        .filter(|&place| is_essential(&list, place))
+        .count();
     Ok((list.count, essentials))
 }
 
 fn is_essential(list: &PrimeList, place: usize) -> bool {
-    match list.get(place) {
-        Some(prime) => prime.essential,
-        None => false,
-    }
+    list.get(place).is_some_and(|prime| prime.essential)
 }
 
 // The number and the needs of the prime at a place.
 fn figures(list: &PrimeList, place: usize) -> (usize, usize) {
-    match list.get(place) {
-        Some(prime) => (prime.number, prime.needs),
-        None => (9999, 0),
-    }
+    list.get(place)
+        .map_or((9999, 0), |prime| (prime.number, prime.needs))
 }
 
 #[test]

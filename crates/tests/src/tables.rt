@@ -1,5 +1,5 @@
 // The truth table and sequences of calls on one.
-use sources::{Call, Outcome, Source, TruthTable, run_calls};
+use sources::{Call, Source, TruthTable, run_calls};
 use std::test::Fail;
 use terms::{Mark, Refusal};
 
@@ -44,10 +44,10 @@ fn a_sequence(rt: HostRuntime) -> Result<(), Fail> {
     ];
     let outcomes = run_calls(rt.alloc(), &calls)?;
     assert!(rt; outcomes.len() == 5);
-    assert_eq!(rt; outcomes[0], Outcome::Done);
-    assert_eq!(rt; outcomes[1], Outcome::Found(Mark::On));
-    assert_eq!(rt; outcomes[2], Outcome::Done);
-    assert_eq!(rt; outcomes[3], Outcome::Found(Mark::Off));
-    assert_eq!(rt; outcomes[4], Outcome::Refused(Refusal::NoSuchRow));
+    assert_eq!(rt; outcomes[0], Ok(None));
+    assert_eq!(rt; outcomes[1], Ok(Some(Mark::On)));
+    assert_eq!(rt; outcomes[2], Ok(None));
+    assert_eq!(rt; outcomes[3], Ok(Some(Mark::Off)));
+    assert_eq!(rt; outcomes[4], Err(Refusal::NoSuchRow));
     Ok(())
 }

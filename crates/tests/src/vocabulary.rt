@@ -38,16 +38,13 @@ fn malformed_terms(rt: HostRuntime) {
 }
 
 fn number_refusing(inputs: usize, mask: u8, levels: u8) -> u8 {
-    match Term::new(inputs, mask, levels) {
-        Ok(_) => 0,
-        Err(refusal) => refusal.number(),
-    }
+    Term::new(inputs, mask, levels).err().map_or(0, u8::from)
 }
 
 #[test]
 fn codes(rt: HostRuntime) -> Result<(), Fail> {
-    assert_eq!(rt; Mark::from_code(2)?, Mark::Free);
-    assert_eq!(rt; Mark::from_code(3), Err(Refusal::NoSuchMark));
-    assert_eq!(rt; Mark::On.code(), 1);
+    assert_eq!(rt; Mark::try_from(2)?, Mark::Free);
+    assert_eq!(rt; Mark::try_from(3), Err(Refusal::NoSuchMark));
+    assert_eq!(rt; usize::from(Mark::On), 1);
     Ok(())
 }

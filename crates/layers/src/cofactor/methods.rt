@@ -30,13 +30,7 @@ impl<S: Source> Cofactor<S> {
         ensures rows { CofactorRows }
         ensures commute { LayersCommute }
     {
-        let inputs = self.below.inputs();
-        if input >= inputs {
-            return Err(Refusal::NoSuchInput);
-        }
-        if inputs == 1 {
-            return Err(Refusal::OnlyInput);
-        }
+        judge(self.below.inputs(), input)?;
         self.setting = Some(Setting { input, level });
         Ok(())
     }
@@ -48,4 +42,17 @@ impl<S: Source> Cofactor<S> {
     {
         self.setting = None;
     }
+}
+
+// Whether an input of a source of so many inputs can be held.
+pub(crate) fn judge(inputs: usize, input: usize) -> Result<(), Refusal>
+    ensures { result ≡ judged (hold_breaks inputs input) tt }
+{
+    if input >= inputs {
+        return Err(Refusal::NoSuchInput);
+    }
+    if inputs == 1 {
+        return Err(Refusal::OnlyInput);
+    }
+    Ok(())
 }

@@ -4,6 +4,7 @@ ghost use Rattle.layers.specs.Layers.{view, in_force, put_in};
 ghost use Rattle.layers.specs.ProperLayers.{view_proper};
 
 use crate::cofactor::Cofactor;
+use crate::cofactor::methods::judge;
 use crate::setting::Setting;
 use sources::Source;
 use terms::{Mark, Refusal};
@@ -39,14 +40,7 @@ impl<S: Source> Source for Cofactor<S> {
 fn held(setting: Option<Setting>, inputs: usize) -> Option<Setting>
     ensures { result ≡ in_force inputs setting }
 {
-    let held = setting?;
-    if held.input >= inputs {
-        return None;
-    }
-    if inputs == 1 {
-        return None;
-    }
-    Some(held)
+    setting.filter(|held| judge(inputs, held.input).is_ok())
 }
 
 // The row below: the held input put in at its level, the inputs from it on moved up one.

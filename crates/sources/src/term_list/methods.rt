@@ -43,13 +43,10 @@ impl TermList {
 fn judge(inputs: usize, on: &[(u8, u8)], free: &[(u8, u8)]) -> Result<(), Refusal>
     ensures { result ≡ judged (fill_breaks inputs on.now free.now) tt }
 {
-    if inputs < 1 || inputs > 8 {
+    if !(1..=8).contains(&inputs) {
         return Err(Refusal::InputsOutOfRange);
     }
-    if !all_terms(inputs, on) {
-        return Err(Refusal::MalformedTerm);
-    }
-    if !all_terms(inputs, free) {
+    if !all_terms(inputs, on) || !all_terms(inputs, free) {
         return Err(Refusal::MalformedTerm);
     }
     Ok(())
@@ -59,13 +56,9 @@ fn judge(inputs: usize, on: &[(u8, u8)], free: &[(u8, u8)]) -> Result<(), Refusa
 fn all_terms(inputs: usize, terms: &[(u8, u8)]) -> bool
     ensures { result ≡ all_terms inputs terms.now }
 {
-    for pair in terms {
-        let (mask, levels) = *pair;
-        if Term::new(inputs, mask, levels).is_err() {
-            return false;
-        }
-    }
-    true
+    terms
+        .iter()
+        .all(|&(mask, levels)| Term::new(inputs, mask, levels).is_ok())
 }
 
 // The terms of a list of pairs of bytes.
@@ -73,11 +66,10 @@ fn gather(heap: Global, inputs: usize, terms: &[(u8, u8)]) -> Result<Vec<Term>, 
     requires { all_terms inputs terms.now ≡ true }
     ensures { MatchResult result (λ v. map bytes v.items ≡ terms.now) (λ e. e ≡ OutOfMemory) }
 {
+    // A loop: `try_collect` says nothing of the error where it fails.
     let mut gathered = Vec::new(heap);
-    for pair in terms {
-        let (mask, levels) = *pair;
-        let term = Term::new(inputs, mask, levels)?;
-        gathered.push(term)?;
+    for &(mask, levels) in terms {
+        gathered.push(Term::new(inputs, mask, levels)?)?;
     }
     Ok(gathered)
 }

@@ -29,22 +29,17 @@ fn mark_by(on: &[Term], free: &[Term], row: usize) -> Mark
     ensures { result ≡ mark_by (map bytes on.now) (map bytes free.now) row }
 {
     if some_holds(on, row) {
-        return Mark::On;
+        Mark::On
+    } else if some_holds(free, row) {
+        Mark::Free
+    } else {
+        Mark::Off
     }
-    if some_holds(free, row) {
-        return Mark::Free;
-    }
-    Mark::Off
 }
 
 // Whether some term of a list holds a row.
 fn some_holds(terms: &[Term], row: usize) -> bool
     ensures { result ≡ some_holds (map bytes terms.now) row }
 {
-    for term in terms {
-        if term.holds(row) {
-            return true;
-        }
-    }
-    false
+    terms.iter().any(|term| term.holds(row))
 }

@@ -1,10 +1,9 @@
 // What may be called on a truth table.
-ghost use Rattle.std.specs.Prelude.{◌≡◌, ◌^◌, Ok, Err};
+ghost use Rattle.std.specs.Prelude.{◌≡◌, ◌^◌};
 ghost use Rattle.sources.specs.Rules.{size_breaks, look_breaks, mark_breaks, sweep_breaks, judged, settled};
 ghost use Rattle.sources.specs.Calls.{table, entered, with_row, with_rows, painted};
 ghost use Rattle.sources.specs.Calls.{changed};
-ghost use Rattle.sources.specs.Model.{breaks, given, concluded};
-ghost use Rattle.sources.specs.declared.call.Outcome.TheVariants.{Done, Found, Refused};
+ghost use Rattle.sources.specs.Model.{breaks, given};
 ghost use Rattle.terms.specs.Terms.{holds};
 ghost use Rattle.terms.specs.Tables.{blank, mark_at};
 
@@ -17,10 +16,18 @@ use terms::{Mark, Refusal, Term};
 fn paint(marks: &mut [Mark], term: Term, mark: Mark)
     ensures { marks.new ≡ painted (holds term) mark 0 marks.old }
 {
-    for row in 0..marks.len() {
+    for (row, old) in marks.iter_mut().enumerate() {
         if term.holds(row) {
-            marks[row] = mark;
+            *old = mark;
         }
+    }
+}
+
+impl Default for TruthTable {
+    ghost is_default = { λ truth. table truth ≡ blank 1 };
+
+    fn default() -> TruthTable {
+        TruthTable::new()
     }
 }
 
@@ -46,7 +53,7 @@ impl TruthTable {
         ensures result { result ≡ judged (size_breaks inputs) tt }
         ensures after { table self.new ≡ settled (size_breaks inputs) (table self.old) (blank inputs) }
     {
-        if inputs < 1 || inputs > 8 {
+        if !(1..=8).contains(&inputs) {
             return Err(Refusal::InputsOutOfRange);
         }
         let marks = [Mark::Off; 256];
@@ -62,8 +69,7 @@ impl TruthTable {
         if row >= self.rows() {
             return Err(Refusal::NoSuchRow);
         }
-        let mark = Mark::from_code(code)?;
-        self.marks[row] = mark;
+        self.marks[row] = Mark::try_from(code)?;
         Ok(())
     }
 
@@ -73,7 +79,7 @@ impl TruthTable {
         ensures after { table self.new ≡ settled (sweep_breaks (table self.old).inputs mask levels code) (table self.old) (with_rows (table self.old) mask levels (entered code)) }
     {
         let term = Term::new(self.inputs, mask, levels)?;
-        let mark = Mark::from_code(code)?;
+        let mark = Mark::try_from(code)?;
         let rows = self.rows();
         paint(&mut self.marks[0..rows], term, mark);
         Ok(())
@@ -81,34 +87,14 @@ impl TruthTable {
 
     // Makes one call, whichever it is.
     pub fn call(&mut self, call: Call) -> Outcome
-        ensures result { result ≡ concluded (breaks (table self.old).inputs call) (given call (mark_at (table self.old))) }
+        ensures result { result ≡ judged (breaks (table self.old).inputs call) (given call (mark_at (table self.old))) }
         ensures after { table self.new ≡ settled (breaks (table self.old).inputs call) (table self.old) (changed (table self.old) call) }
     {
         match call {
-            Call::Size { inputs } => done(self.size(inputs)),
-            Call::Mark { row, code } => done(self.mark(row, code)),
-            Call::Sweep { mask, levels, code } => done(self.sweep(mask, levels, code)),
-            Call::Look { row } => found(self.look(row)),
+            Call::Size { inputs } => self.size(inputs).map(|()| None),
+            Call::Mark { row, code } => self.mark(row, code).map(|()| None),
+            Call::Sweep { mask, levels, code } => self.sweep(mask, levels, code).map(|()| None),
+            Call::Look { row } => self.look(row).map(Some),
         }
-    }
-}
-
-// What a call that writes came to.
-fn done(res: Result<(), Refusal>) -> Outcome
-    ensures { elim res [ Ok _ ↦ result ≡ Done | Err e ↦ result ≡ Refused e ] }
-{
-    match res {
-        Ok(()) => Outcome::Done,
-        Err(refusal) => Outcome::Refused(refusal),
-    }
-}
-
-// What a look came to.
-fn found(res: Result<Mark, Refusal>) -> Outcome
-    ensures { elim res [ Ok m ↦ result ≡ Found m | Err e ↦ result ≡ Refused e ] }
-{
-    match res {
-        Ok(mark) => Outcome::Found(mark),
-        Err(refusal) => Outcome::Refused(refusal),
     }
 }

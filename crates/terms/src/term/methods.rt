@@ -53,17 +53,14 @@ impl Term {
     pub fn is_earlier(self, other: Term) -> bool
         ensures { result ≡ earlier self other }
     {
-        self.number() < other.number()
+        self < other
     }
 
     // How the term is written at one input: `0` or `1` for the level it wants, `-` where it does not read the input.
     pub fn symbol(self, input: usize) -> u8
         ensures { result ≡ symbol self input }
     {
-        if input >= 8 {
-            return b'-';
-        }
-        if self.mask >> input & 1 == 0 {
+        if input >= 8 || self.mask >> input & 1 == 0 {
             return b'-';
         }
         b'0' + (self.levels >> input & 1)
@@ -73,6 +70,7 @@ impl Term {
     pub fn written(self, heap: Global, inputs: usize) -> Result<String, AllocError>
         ensures { IfOk result (λ s. string_bytes s ≡ written inputs self) }
     {
+        // A loop: the check does not find what text a chain over a reversed range collects.
         let mut text = String::new(heap);
         for i in (0..inputs).rev() {
             text.push(char::from(self.symbol(i)))?;

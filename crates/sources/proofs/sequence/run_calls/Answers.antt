@@ -2,8 +2,7 @@ use Rattle.std.proofs.Common.{◌≡◌, ℕ, suc, ◌+◌, List, [], ◌++◌, 
 use Rattle.sources.specs.declared.call.Call.{Call}
 use Rattle.sources.specs.declared.call.Call.TheVariants.{Size}
 use Rattle.sources.specs.Calls.{table}
-use Rattle.sources.specs.declared.call.Outcome.{Outcome}
-use Rattle.sources.specs.Model.{answers}
+use Rattle.sources.specs.Model.{Outcome, answers}
 use Rattle.sources.proofs.Following.{Agrees, so_far, agrees_new, agrees_next, answer_same, answers_more, so_far_more, answers_all, faithful}
 use Rattle.sources.proofs.sequence.run_calls.Goals as goal
 

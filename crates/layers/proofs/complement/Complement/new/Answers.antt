@@ -1,6 +1,5 @@
-use Rattle.std.proofs.Common.{refl}
 use Rattle.layers.proofs.Layering.{complement_twice}
 use Rattle.layers.proofs.complement.Complement.new.Goals as goal
 
-pub returns : goal.returns
-returns g c = record { value = refl; twice = complement_twice }
+pub returns-clause-twice : goal.returns-clause-twice
+returns-clause-twice g c = complement_twice

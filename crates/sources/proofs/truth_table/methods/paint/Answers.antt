@@ -1,5 +1,7 @@
 use Rattle.std.proofs.Common.{◌≡◌, ℕ, suc, ◌+◌, Bool, List, set, sym, ap, ◌∙◌, zero-add, add-one}
+use Rattle.std.proofs.lemmas.List.{set-get_or}
 use Rattle.terms.specs.declared.mark.Mark.{Mark}
+use Rattle.terms.specs.declared.mark.Mark.TheVariants.{Off}
 use Rattle.terms.specs.Terms.{holds}
 use Rattle.sources.proofs.Painting.{begun, begun_in, begun_out, begun_all}
 use Rattle.sources.proofs.truth_table.methods.paint.Goals as goal
@@ -17,7 +19,7 @@ loop-row-preserved c =
           w.marks-is ∙ ap (λ (ms : List Mark). set ms row c.args.mark) c.loop-row.invariant
           ∙ begun_in p c.args.mark row 0 c.args.marks.now (h ∙ w.if-holds.true) ∙ next
       | else-holds w ↦
-          w.marks-is ∙ c.loop-row.invariant
+          w.marks-is ∙ set-get_or c.loop-row.marks row Off ∙ c.loop-row.invariant
           ∙ begun_out p c.args.mark row 0 c.args.marks.now (h ∙ w.if-holds.false) ∙ next
     ]
 
