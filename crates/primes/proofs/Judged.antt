@@ -1,8 +1,10 @@
 -- One entry of the table, from the later ones.
-use Rattle.std.proofs.Common.{◌≡◌, ℕ, ◌+◌, ◌*◌, ◌/◌, ◌%◌, ◌^◌, ◌<◌, ◌≤◌, Bool, true, false, not, ◌&&◌, List, length, get_or, set, sym, ap, ◌∙◌, subst, ap₂, ⊎_elim, arith, get_or-set_other, get_or-set_same}
+use Rattle.std.proofs.Common.{◌≡◌, ℕ, ◌+◌, ◌-◌, ◌*◌, ◌/◌, ◌%◌, ◌^◌, ◌<◌, ◌≤◌, Bool, true, false, not, ◌&&◌, List, length, get_or, set, sym, ap, ◌∙◌, subst, ap₂, ⊎_elim, arith, get_or-set_other, get_or-set_same}
 use Rattle.std.proofs.lemmas.Bool.{cases_eq, lt-ltb}
 use Rattle.primes.specs.Cubes.{cube_of}
 use Rattle.primes.proofs.Cube.{imp}
+use Rattle.fixed.specs.declared.set.FixedSet.{FixedSet}
+use Rattle.fixed.specs.Sets.{member}
 use Rattle.terms.specs.Marks.{is_off}
 use Rattle.terms.specs.Tables.{Table, rows, mark_at}
 use Rattle.sources.specs.Sources.{off_at}
@@ -52,11 +54,30 @@ module _ (tb : Table) (n x : ℕ) (few : n ≤ 8) (same : n ≡ tb.inputs) (h : 
       at x h ∙ full_at n x (allowed tb) full ∙ ap (allowed tb) (sym e)
       ∙ ap (λ (b : Bool). not (b && is_off (mark_at tb row))) (sym (lt-ltb row (rows tb) lt))
 
--- ---- the table so far, from the top down
-pub settled_more : (tb : Table) (n k : ℕ) (ys : List Bool) (v : Bool) → k < length ys → v ≡ implicant_at tb k → Settled tb n k ys
-    → (y : ℕ) → k ≤ y → y < 3 ^ n → get_or (set ys k v) y false ≡ implicant_at tb y
-settled_more tb n k ys v h e later y a b =
-    ⊎_elim
-    (λ q. subst (λ (z : ℕ). get_or (set ys k v) z false ≡ implicant_at tb z) (sym q) (get_or-set_same ys k v false h ∙ e))
-    (λ q. get_or-set_other ys k y v false q ∙ later y (omega arith) b)
-    (cases_eq y k)
+-- ---- the set so far, from the top down: from x on it is right, and below it is empty
+pub record JudgedFrom (tb : Table) (n x : ℕ) (s : FixedSet 6561) : Type 0 where
+  pub later : (y : ℕ) → x ≤ y → y < 3 ^ n → member s y ≡ implicant_at tb y
+  pub below : (y : ℕ) → y < x → member s y ≡ false
+
+module _ (tb : Table) (n x : ℕ) (s : FixedSet 6561) (some : 0 < x) (j : JudgedFrom tb n x s) where
+  pub judged_in : (t : FixedSet 6561) → x ≤ 6561 → implicant_at tb (x - 1) ≡ true → t.on ≡ set s.on (x - 1) true → JudgedFrom tb n (x - 1) t
+  judged_in t few e q =
+      let at : x - 1 < length s.on = omega (arith, s.full) in
+      let same : (y : ℕ) → (y ≡ x - 1 → ⊥) → member t y ≡ member s y = λ y z. ap (λ (ys : List Bool). get_or ys y false) q ∙ get_or-set_other s.on (x - 1) y true false z in
+      record {
+        later = λ y a b. ⊎_elim
+            (λ w. ap₂ (λ (ys : List Bool) (z : ℕ). get_or ys z false) q w ∙ get_or-set_same s.on (x - 1) true false at ∙ sym (ap (implicant_at tb) w ∙ e))
+            (λ z. same y z ∙ j.later y (omega arith) b)
+            (cases_eq y (x - 1));
+        below = λ y a. same y (λ w. omega arith) ∙ j.below y (omega arith);
+      }
+
+  pub judged_out : implicant_at tb (x - 1) ≡ false → JudgedFrom tb n (x - 1) s
+  judged_out e =
+      record {
+        later = λ y a b. ⊎_elim
+            (λ w. j.below y (omega arith) ∙ sym (ap (implicant_at tb) w ∙ e))
+            (λ z. j.later y (omega arith) b)
+            (cases_eq y (x - 1));
+        below = λ y a. j.below y (omega arith);
+      }

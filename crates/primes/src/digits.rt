@@ -27,12 +27,7 @@ pub(crate) fn unread(x: usize, n: usize) -> Option<usize>
     requires { n ≤ 8 }
     ensures { MatchOption result ((k : ℕ) → k < n → x / 3 ^ k % 3 ≢ 0) (λ i. (i < n) × (x / 3 ^ i % 3 ≡ 0)) }
 {
-    for i in 0..n {
-        if digit(x, i) == 0 {
-            return Some(i);
-        }
-    }
-    None
+    (0..n).find(|i| digit(x, *i) == 0)
 }
 
 // The levels that the term of a number wants of n inputs.

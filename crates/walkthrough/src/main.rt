@@ -105,10 +105,7 @@ fn print_primes<S: Source>(rt: &HostRuntime, source: &S, work: Work) -> io::Resu
         let number = refusal.number();
         return println!(rt; "    refused {number}");
     }
-    for place in 0..list.count {
-        let Some(prime) = list.get(place) else {
-            break;
-        };
+    for prime in list.as_slice() {
         let term = prime.term.written(rt.alloc(), source.inputs())?;
         let needs = prime.needs;
         let essential = if prime.essential { ", essential" } else { "" };
