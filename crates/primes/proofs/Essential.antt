@@ -1,5 +1,5 @@
 -- Which primes are essential, need by need.
-use Rattle.std.proofs.Common.{◌≡◌, ℕ, zero, suc, ◌+◌, ◌<◌, ◌≤◌, Bool, true, false, cond, not, ◌&&◌, ◌||◌, eqb, List, [], ◌∷◌, ◌++◌, map, length, get_or, take, drop, set, Some, None, filter, position, nat_lt, ◌==◌, add-one, drop-cons, sym, refl, ap, ◌∙◌, subst, ap₂, inl, inr, le_of_suc-le-suc, not-suc-le-zero, arith, length-set, take_all, get_or-set_other, take-suc, get_or-set_same, ext_get_or}
+use Rattle.std.proofs.Common.{◌≡◌, ℕ, zero, suc, ◌+◌, ◌<◌, ◌≤◌, Bool, true, false, cond, not, ◌&&◌, ◌||◌, eqb, List, [], ◌∷◌, ◌++◌, map, length, get_or, take, drop, set, Some, None, filter, position, nat_lt, ◌==◌, add-one, drop-cons, sym, refl, ap, ◌∙◌, subst, ap₂, inl, inr, le_of_suc-le-suc, not-suc-le-zero, arith, length-set, get_or-set_other, take-suc, get_or-set_same, ext_get_or}
 use lib.ListN.{length-map}
 use Rattle.std.specs.List.{position_or_len}
 use Rattle.std.proofs.lemmas.List.{drop_all}
@@ -12,7 +12,7 @@ use Rattle.terms.specs.Terms.{number}
 use Rattle.primes.specs.declared.need.Need.{Need}
 use Rattle.primes.specs.declared.prime.Prime.{Prime}
 use Rattle.primes.specs.Needs.{meets}
-use Rattle.primes.specs.Records.{held, holders, is_essential, record_of, no_prime, record_meets, sole_place}
+use Rattle.primes.specs.Records.{held, holders, is_essential, no_prime, record_meets, sole_place}
 
 -- ---- lists
 pub get_or_any : {A : Type 0} (xs : List A) (i : ℕ) (d e : A) → i < length xs → get_or xs i d ≡ get_or xs i e
@@ -100,14 +100,6 @@ module _ {A : Type 0} (p : A → Bool) where
       go true e = cc
       go false e = cc
 
-  -- the place, by the first that passes and the first after it
-  pub sole_none : (xs : List A) → position p xs ≡ None → sole_place p xs ≡ None
-  sole_none xs e = go (length (filter p xs) == 1)
-    where
-      go : (b : Bool) → cond b (position p xs) None ≡ None
-      go true = e
-      go false = refl
-
   pub sole_not : (xs : List A) (i j : ℕ) (d : A) → position p xs ≡ Some i → position p (drop (i + 1) xs) ≡ Some j → sole_place p xs ≡ None
   sole_not xs i j d e m =
       let a = one_more xs i d e in
@@ -147,12 +139,6 @@ or_false false = refl
 or_assoc : (a b c : Bool) → (a || (b || c)) ≡ ((a || b) || c)
 or_assoc true b c = refl
 or_assoc false b c = refl
-
-or_swap : (a b : Bool) → (a || b) ≡ (b || a)
-or_swap true true = refl
-or_swap true false = refl
-or_swap false true = refl
-or_swap false false = refl
 
 or_true : (b : Bool) → (b || true) ≡ true
 or_true true = refl
@@ -247,6 +233,3 @@ module _ (ps : List Term) (ds : List Need) (k : ℕ) (d₀ : Need) (h : k < leng
       q ∙ ap (λ (x : Prime). record { term = x.term; number = x.number; needs = x.needs; essential = true }) here in
       e ∙ ap (λ (xs : List Prime). set xs at r) inv
       ∙ noted_sole ps ds k d₀ h at t₀ b (sym (ap (record_meets (get_or ds k d₀)) here) ∙ y) (sym holders_in ∙ one) r r'
-
-pub noting_all : (ps : List Term) (ds : List Need) (k : ℕ) (l : FixedList Prime 256) → length ds ≤ k → Noting ps ds k l → entries l ≡ map (record_of ps ds) ps
-noting_all ps ds k l h inv = inv ∙ ap (λ (es : List Need). map (noted ps ds es) ps) (take_all k ds h)

@@ -15,7 +15,7 @@ use Rattle.terms.proofs.Bytes.{below, below_at}
 use Rattle.primes.specs.declared.need.Need.{Need}
 use Rattle.primes.specs.declared.need.Work.{Work}
 use Rattle.primes.specs.declared.need.Work.TheVariants.{Plain, HazardFree}
-use Rattle.primes.specs.Needs.{row_need, pair_need, pairs_at, pairs, candidates, is_needed, needs, added}
+use Rattle.primes.specs.Needs.{row_need, row_needs, pair_need, pairs_at, pairs, candidates, is_needed, needs, added}
 
 -- ---- the needs that go in
 take_take : {T : Type 0} (n : ℕ) (xs ys : List T) → take n (take n xs ++ ys) ≡ take n (xs ++ ys)
@@ -46,7 +46,7 @@ module _ (tb : Table) where
       q ∙ ap (λ (ws : List Need). added tb ws ys) e ∙ added_twice old xs ys ∙ ap (added tb old) (sym h)
 
 -- ---- the candidates so far
-pub rows_more : (r : ℕ) → map row_need (range_with_len 0 (r + 1)) ≡ map row_need (range_with_len 0 r) ++ row_need r ∷ []
+pub rows_more : (r : ℕ) → row_needs (r + 1) ≡ row_needs r ++ row_need r ∷ []
 rows_more r = map-range_with_len_more row_need 0 r r (omega arith)
 
 numbers_more : (a n : ℕ) → range_with_len a (n + 1) ≡ range_with_len a n ++ (a + n) ∷ []

@@ -13,6 +13,10 @@ use Rattle.primes.specs.declared.need.Work.TheVariants.{Plain, HazardFree}
 abbrev pub row_need : ℕ → Need
 row_need r = record { low = r; high = r }
 
+-- the first k rows by themselves, rising
+abbrev pub row_needs : ℕ → List Need
+row_needs k = map row_need (range_with_len 0 k)
+
 -- two rows that differ in input i, which the lower row r has at 0
 abbrev pub pair_need : ℕ → ℕ → Need
 pair_need r i = record { low = r; high = r + 2 ^ i }
@@ -27,8 +31,8 @@ pairs n r k = flat_map (λ q. pairs_at q 0 n) (range_with_len r k)
 
 -- all that could be needed of a function of n inputs: the rows, rising, and in hazard-free work then the pairs
 abbrev pub candidates : ℕ → Work → List Need
-candidates n Plain = map row_need (range_with_len 0 (2 ^ n))
-candidates n HazardFree = map row_need (range_with_len 0 (2 ^ n)) ++ pairs n 0 (2 ^ n)
+candidates n Plain = row_needs (2 ^ n)
+candidates n HazardFree = row_needs (2 ^ n) ++ pairs n 0 (2 ^ n)
 
 -- both rows of a need are ON
 abbrev pub is_needed : Table → Need → Bool

@@ -7,7 +7,7 @@ use crate::need::{Need, NeedList};
 use crate::prime::{Prime, PrimeList};
 use crate::records::holds_need;
 
-// Notes in each record whether the prime is essential for the needs.
+// Notes in each record whether the prime is essential for the needs. A loop, since each need may change a record.
 pub(crate) fn mark_essentials(list: &mut PrimeList, needs: &NeedList)
     requires { entries list.old ≡ map (fresh (entries needs.now)) (terms_in list.old) }
     ensures { entries list.new ≡ map (record_of (terms_in list.old) (entries needs.now)) (terms_in list.old) }

@@ -4,7 +4,7 @@ ghost use Rattle.fixed.specs.Sets.{member};
 ghost use Rattle.sources.specs.Sources.{off_at};
 ghost use Rattle.primes.specs.Primes.{implicant_at};
 
-use crate::digits::{levels_of, power, unread};
+use crate::digits::{levels_at, power, unread};
 use fixed::FixedSet;
 use sources::Source;
 
@@ -13,7 +13,7 @@ pub(crate) type Numbers = FixedSet<6561>;
 
 // Judges every term over the source's inputs. A term that reads every input is judged by its one row; any other is an
 // implicant when both terms that read one input more are, and their numbers are higher: so one pass downwards does.
-// A loop: each entry is judged by the ones before it.
+// A loop over a range, since each term is judged by those before it.
 pub(crate) fn judge_all<S: Source>(source: &S) -> Numbers
     ensures { (x : ℕ) → x < 3 ^ (S.Source.meaning source.now).inputs → member result x ≡ implicant_at (S.Source.meaning source.now) x }
 {
@@ -40,7 +40,7 @@ fn judge<S: Source>(found: &Numbers, source: &S, n: usize, x: usize) -> bool
             let step = power(i);
             found.contains(x + step) && found.contains(x + 2 * step)
         }
-        None => may_hold(source, levels_of(x, n)),
+        None => may_hold(source, levels_at(x)),
     }
 }
 

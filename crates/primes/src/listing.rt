@@ -17,7 +17,7 @@ use sources::Source;
 use terms::Refusal;
 
 // The primes in rising number, with their needs counted, unless there are more than 256: every implicant is tried, and the
-// trial ends at the first input that can be dropped.
+// trial ends at the first input that can be dropped. A labelled loop, since that input ends the trial of its term.
 fn find_primes<S: Source>(source: &S, needs: &NeedList) -> Option<PrimeList>
     ensures { MatchOption result (256 < length (primes (S.Source.meaning source.now))) (λ list. entries list ≡ map (fresh (entries needs.now)) (primes (S.Source.meaning source.now))) }
 {

@@ -1,13 +1,12 @@
 // Listing the needs of a source.
-ghost use Rattle.std.specs.Prelude.{◌≡◌, ◌^◌, ◌<◌, [], ◌∷◌, map};
-ghost use Rattle.std.specs.List.{range_with_len};
+ghost use Rattle.std.specs.Prelude.{◌≡◌, ◌^◌, ◌<◌, [], ◌∷◌};
 ghost use Rattle.fixed.specs.Lists.{entries};
-ghost use Rattle.primes.specs.Needs.{needs, row_need, is_needed, pair_need, pairs_at, pairs, added};
+ghost use Rattle.primes.specs.Needs.{needs, row_needs, is_needed, pair_need, pairs_at, pairs, added};
 
 use crate::need::{Need, NeedList, Work};
 use sources::Source;
 
-// The needs of a source in some kind of work.
+// The needs of a source in some kind of work. There is room for all of them: 8 inputs have 256 rows and 1,024 pairs.
 pub fn list_needs<S: Source>(source: &S, work: Work) -> NeedList
     ensures { entries result ≡ needs (S.Source.meaning source.now) work }
 {
@@ -20,9 +19,10 @@ pub fn list_needs<S: Source>(source: &S, work: Work) -> NeedList
     list
 }
 
-// Adds the ON rows, rising.
+// Adds the ON rows, rising. A loop, here and below, since each step changes the list; a struct of the source and the list
+// would lend both at every call, and is no plainer.
 fn add_rows<S: Source>(source: &S, list: &mut NeedList)
-    ensures { entries list.new ≡ added (S.Source.meaning source.now) (entries list.old) (map row_need (range_with_len 0 (2 ^ (S.Source.meaning source.now).inputs))) }
+    ensures { entries list.new ≡ added (S.Source.meaning source.now) (entries list.old) (row_needs (2 ^ (S.Source.meaning source.now).inputs)) }
 {
     for row in 0..1 << source.inputs() {
         add(
@@ -69,7 +69,7 @@ fn pair(row: usize, input: usize) -> Need
     }
 }
 
-// Adds a need to the list where both its rows are ON.
+// Adds a need to the list where both its rows are ON and there is room.
 fn add<S: Source>(source: &S, need: Need, list: &mut NeedList)
     ensures { entries list.new ≡ added (S.Source.meaning source.now) (entries list.old) (need ∷ []) }
 {

@@ -1,5 +1,6 @@
 use Rattle.std.proofs.Common.{◌+◌, ◌*◌, Bool, ◌&&◌, sym, ap, ◌∙◌, arith}
 use Rattle.fixed.specs.Sets.{member}
+use Rattle.primes.proofs.BaseThree.{levels_same}
 use Rattle.primes.proofs.Judged.{room, judged_split, judged_row}
 use Rattle.primes.proofs.implicants.judge.Goals as goal
 
@@ -24,4 +25,4 @@ pub returns-in-None : goal.returns-in-None
 returns-in-None g c =
     c.may_hold.ensures
     ∙ sym (judged_row (g.S.Source.meaning c.args.source.now) c.args.n c.args.x c.requires.few c.requires.inputs c.requires.number
-    c.levels_of.result c.levels_of.ensures c.in-None.ensures)
+    c.levels_at.result (c.levels_at.ensures ∙ levels_same 8 c.args.n c.args.x c.requires.few c.requires.number) c.in-None.ensures)
