@@ -2,7 +2,8 @@
 use Rattle.std.proofs.Common.{◌≡◌, ℕ, zero, suc, ◌+◌, ◌<◌, ◌≤◌, Bool, true, false, cond, not, ◌&&◌, ◌||◌, eqb, List, [], ◌∷◌, ◌++◌, map, length, get_or, take, drop, set, Some, None, filter, position, nat_lt, ◌==◌, add-one, drop-cons, sym, refl, ap, ◌∙◌, subst, ap₂, inl, inr, le_of_suc-le-suc, not-suc-le-zero, arith, length-set, get_or-set_other, take-suc, get_or-set_same, ext_get_or}
 use lib.ListN.{length-map}
 use Rattle.std.specs.List.{position_or_len}
-use Rattle.std.proofs.lemmas.List.{drop_all}
+use Rattle.std.proofs.lemmas.List.{drop_all, get_or-map}
+use Rattle.std.proofs.Math.Bool.{or-false, or-true, or_assoc}
 use Rattle.std.proofs.lemmas.List.Quantifiers.{position-Some}
 use Rattle.std.proofs.lemmas.Bool.{cases_eq, cases_Bool, eq-eqb, eqb-true, ltb-false, ne_eqb, and_left, and_right, and_from}
 use Rattle.terms.specs.declared.term.Term.{Term}
@@ -13,17 +14,6 @@ use Rattle.primes.specs.declared.need.Need.{Need}
 use Rattle.primes.specs.declared.prime.Prime.{Prime}
 use Rattle.primes.specs.Needs.{meets}
 use Rattle.primes.specs.Records.{held, holders, is_essential, no_prime, record_meets, sole_place}
-
--- ---- lists
-pub get_or_any : {A : Type 0} (xs : List A) (i : ℕ) (d e : A) → i < length xs → get_or xs i d ≡ get_or xs i e
-get_or_any [] i d e h = absurd (not-suc-le-zero h)
-get_or_any (x ∷ xs) zero d e h = refl
-get_or_any (x ∷ xs) (suc i) d e h = get_or_any xs i d e (le_of_suc-le-suc h)
-
-pub get_or_map_at : {A B : Type 0} (f : A → B) (xs : List A) (i : ℕ) (d : A) (e : B) → i < length xs → get_or (map f xs) i e ≡ f (get_or xs i d)
-get_or_map_at f [] i d e h = absurd (not-suc-le-zero h)
-get_or_map_at f (x ∷ xs) zero d e h = refl
-get_or_map_at f (x ∷ xs) (suc i) d e h = get_or_map_at f xs i d e (le_of_suc-le-suc h)
 
 pub length_kept_map : {A B : Type 0} (q : B → Bool) (f : A → B) (xs : List A) → length (filter q (map f xs)) ≡ length (filter (λ x. q (f x)) xs)
 length_kept_map q f [] = refl
@@ -132,24 +122,12 @@ module _ {A : Type 0} (p : A → Bool) where
 abbrev pub noted : List Term → List Need → List Need → Term → Prime
 noted ps ds es t = record { term = t; number = number t; needs = held ds t; essential = is_essential ps es t }
 
-or_false : (b : Bool) → (b || false) ≡ b
-or_false true = refl
-or_false false = refl
-
-or_assoc : (a b c : Bool) → (a || (b || c)) ≡ ((a || b) || c)
-or_assoc true b c = refl
-or_assoc false b c = refl
-
-or_true : (b : Bool) → (b || true) ≡ true
-or_true true = refl
-or_true false = refl
-
 essential_more : (ps : List Term) (es : List Need) (d : Need) (t : Term)
     → is_essential ps (es ++ d ∷ []) t ≡ (is_essential ps es t || (meets t d && eqb (holders ps d) 1))
-essential_more ps [] d t = or_false (meets t d && eqb (holders ps d) 1)
+essential_more ps [] d t = or-false (meets t d && eqb (holders ps d) 1)
 essential_more ps (e ∷ es) d t =
     ap (λ (b : Bool). (meets t e && eqb (holders ps e) 1) || b) (essential_more ps es d t)
-    ∙ or_assoc (meets t e && eqb (holders ps e) 1) (is_essential ps es t) (meets t d && eqb (holders ps d) 1)
+    ∙ sym (or_assoc (meets t e && eqb (holders ps e) 1) (is_essential ps es t) (meets t d && eqb (holders ps d) 1))
 
 module _ (ps : List Term) (ds : List Need) (k : ℕ) (d₀ : Need) (h : k < length ds) where
   essential_next : (t : Term) → is_essential ps (take (k + 1) ds) t ≡ (is_essential ps (take k ds) t || (meets t (get_or ds k d₀) && eqb (holders ps (get_or ds k d₀)) 1))
@@ -161,7 +139,7 @@ module _ (ps : List Term) (ds : List Need) (k : ℕ) (d₀ : Need) (h : k < leng
   same_essential : (t : Term) → (meets t (get_or ds k d₀) && eqb (holders ps (get_or ds k d₀)) 1) ≡ false → noted ps ds (take k ds) t ≡ noted ps ds (take (k + 1) ds) t
   same_essential t e =
       ap (λ (b : Bool). record { term = t; number = number t; needs = held ds t; essential = b })
-      (sym (essential_next t ∙ ap (λ (b : Bool). is_essential ps (take k ds) t || b) e ∙ or_false (is_essential ps (take k ds) t)))
+      (sym (essential_next t ∙ ap (λ (b : Bool). is_essential ps (take k ds) t || b) e ∙ or-false (is_essential ps (take k ds) t)))
 
   map_same : {A B : Type 0} (f g : A → B) (xs : List A) → ((x : A) → f x ≡ g x) → map f xs ≡ map g xs
   map_same f g [] e = refl
@@ -193,17 +171,17 @@ module _ (ps : List Term) (ds : List Need) (k : ℕ) (d₀ : Need) (h : k < leng
             ∙ q
             ∙ ap (λ (x : Bool). record { term = t; number = number t; needs = held ds t; essential = x })
             (sym (essential_next t ∙ ap (λ (x : Bool). is_essential ps (take k ds) t || x) (and_from (meets t need) (eqb (holders ps need) 1) m (eq-eqb (holders ps need) 1 one))
-            ∙ or_true (is_essential ps (take k ds) t)))
-            ∙ sym (get_or_map_at g ps at t₀ no_prime a)
+            ∙ or-true (is_essential ps (take k ds) t)))
+            ∙ sym (get_or-map g ps at t₀ no_prime a)
             ∙ ap (λ (x : ℕ). get_or (map g ps) x no_prime) (sym e)
         | inr n ↦
             let t : Term = get_or ps j t₀ in
             let miss : meets t need ≡ false =
             elim (cases_Bool (meets t need)) [ inl y ↦ absurd (n (only_one (λ p. meets p need) ps j at t₀ one b a y m)) | inr y ↦ y ] in
             get_or-set_other (map f ps) at j r no_prime n
-            ∙ get_or_map_at f ps j t₀ no_prime b
+            ∙ get_or-map f ps j t₀ no_prime b
             ∙ same_essential t (and_left (meets t need) (eqb (holders ps need) 1) miss)
-            ∙ sym (get_or_map_at g ps j t₀ no_prime b)
+            ∙ sym (get_or-map g ps j t₀ no_prime b)
       ])
 
 -- ---- the list, need by need
@@ -228,7 +206,7 @@ module _ (ps : List Term) (ds : List Need) (k : ℕ) (d₀ : Need) (h : k < leng
       let g : Term → Prime = noted ps ds (take k ds) in
       let b : at < length ps = subst (λ (x : ℕ). at < x) (ap length inv ∙ length-map ps g) a in
       let here : get_or (entries l) at no_prime ≡ g (get_or ps at t₀) =
-      ap (λ (xs : List Prime). get_or xs at no_prime) inv ∙ get_or_map_at g ps at t₀ no_prime b in
+      ap (λ (xs : List Prime). get_or xs at no_prime) inv ∙ get_or-map g ps at t₀ no_prime b in
       let r' : r ≡ record { term = get_or ps at t₀; number = number (get_or ps at t₀); needs = held ds (get_or ps at t₀); essential = true } =
       q ∙ ap (λ (x : Prime). record { term = x.term; number = x.number; needs = x.needs; essential = true }) here in
       e ∙ ap (λ (xs : List Prime). set xs at r) inv

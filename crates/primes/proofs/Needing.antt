@@ -1,9 +1,10 @@
 -- Lists of needs that grow by what a test keeps of the candidates.
-use Rattle.std.proofs.Common.{◌≡◌, ℕ, zero, suc, ◌+◌, ◌≤◌, Bool, true, false, cond, eqb, leb, List, [], ◌∷◌, ◌++◌, map, length, take, filter, sym, refl, ap, ◌∙◌, append_assoc, append-nil, add-one, arith, take_all}
+use Rattle.std.proofs.Common.{◌≡◌, ℕ, zero, suc, ◌+◌, ◌≤◌, Bool, true, false, not, cond, eqb, leb, List, [], ◌∷◌, ◌++◌, map, length, take, filter, sym, refl, ap, ◌∙◌, append_assoc, append-nil, add-one, arith, take_all}
 use Rattle.std.specs.List.{flat_map, range_with_len}
 use Rattle.std.proofs.lemmas.Grind.{flat_map-append}
 use Rattle.std.proofs.lemmas.List.{map-append}
 use Rattle.std.proofs.lemmas.List.Elements.{filter-append}
+use Rattle.std.proofs.lemmas.List.Filters.{length-filter_both}
 use Rattle.std.proofs.lemmas.List.FromFn.{map-range_with_len_more}
 use Rattle.std.proofs.lemmas.Bool.{leb-true}
 use Rattle.fixed.specs.declared.list.FixedList.{FixedList}
@@ -84,18 +85,11 @@ few_candidates : (n : ℕ) (work : Work) → n ≤ 8 → length (candidates n wo
 unfolding few_by
 few_candidates n work h = leb-true (length (candidates n work)) 1280 (below_at (few_by work) 9 n (few_below work) (omega arith))
 
-length_kept : {A : Type 0} (p : A → Bool) (xs : List A) → length (filter p xs) ≤ length xs
-length_kept p [] = omega arith
-length_kept p (x ∷ xs) = go (p x) (length_kept p xs)
-  where
-    go : (b : Bool) → length (filter p xs) ≤ length xs → length (cond b (x ∷ filter p xs) (filter p xs)) ≤ suc (length xs)
-    go true h = omega arith
-    go false h = omega arith
-
 -- so all of them go in
 pub added_all : (tb : Table) (work : Work) → tb.inputs ≤ 8 → added tb [] (candidates tb.inputs work) ≡ needs tb work
 unfolding needs
 added_all tb work h =
-    let a = length_kept (is_needed tb) (candidates tb.inputs work) in
+    let p = is_needed tb in
+    let a = length-filter_both p (λ d. not (p d)) (λ _. refl) (candidates tb.inputs work) in
     let b = few_candidates tb.inputs work h in
-    take_all 1280 (filter (is_needed tb) (candidates tb.inputs work)) (omega arith)
+    take_all 1280 (filter p (candidates tb.inputs work)) (omega arith)

@@ -1,5 +1,6 @@
 -- The records of the prime list: what is noted of each prime.
-use Rattle.std.specs.Prelude.{ℕ, Bool, false, cond, if◌then◌else◌, ◌&&◌, ◌||◌, List, [], ◌∷◌, map, length, Some, None, filter, position, Option, ◌==◌, nat_lt}
+use Rattle.std.specs.Prelude.{ℕ, Bool, false, cond, if◌then◌else◌, ◌&&◌, List, map, length, Some, None, filter, position, Option, ◌==◌, nat_lt}
+use Rattle.std.specs.List.{list_any}
 use Rattle.terms.specs.declared.refusal.Refusal.{Refusal}
 use Rattle.terms.specs.declared.refusal.Refusal.TheVariants.{TooManyPrimes}
 use Rattle.terms.specs.declared.term.Term.{Term}
@@ -28,8 +29,7 @@ holders ps d = length (filter (λ p. meets p d) ps)
 
 -- t is essential among ps: some need is held by t and by no other of them
 abbrev pub is_essential : List Term → List Need → Term → Bool
-is_essential ps [] t = false
-is_essential ps (d ∷ ds) t = (meets t d && holders ps d == 1) || is_essential ps ds t
+is_essential ps ds t = list_any (λ d. meets t d && holders ps d == 1) ds
 
 -- a prime with its needs counted, not yet known to be essential
 abbrev pub fresh : List Need → Term → Prime

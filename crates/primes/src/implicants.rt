@@ -1,5 +1,5 @@
 // Which terms are implicants: the set of their numbers.
-ghost use Rattle.std.specs.Prelude.{◌≡◌, ℕ, ◌^◌, ◌<◌, ◌≤◌, not};
+ghost use Rattle.std.specs.Prelude.{◌≡◌, ℕ, ◌^◌, ◌<◌, not};
 ghost use Rattle.fixed.specs.Sets.{member};
 ghost use Rattle.sources.specs.Sources.{off_at};
 ghost use Rattle.primes.specs.Primes.{implicant_at};
@@ -17,10 +17,9 @@ pub(crate) type Numbers = FixedSet<6561>;
 pub(crate) fn judge_all<S: Source>(source: &S) -> Numbers
     ensures { (x : ℕ) → x < 3 ^ (S.Source.meaning source.now).inputs → member result x ≡ implicant_at (S.Source.meaning source.now) x }
 {
-    let n = source.inputs();
     let mut found = Numbers::none();
-    for x in (0..power(n)).rev() {
-        if judge(&found, source, n, x) {
+    for x in (0..power(source.inputs())).rev() {
+        if judge(source, &found, x) {
             found.insert(x);
         }
     }
@@ -28,14 +27,12 @@ pub(crate) fn judge_all<S: Source>(source: &S) -> Numbers
 }
 
 // Judges the term of one number, where the later ones are judged.
-fn judge<S: Source>(found: &Numbers, source: &S, n: usize, x: usize) -> bool
-    requires inputs { n ≡ (S.Source.meaning source.now).inputs }
-    requires few { n ≤ 8 }
-    requires number { x < 3 ^ n }
-    requires later { (y : ℕ) → x < y → y < 3 ^ n → member found.now y ≡ implicant_at (S.Source.meaning source.now) y }
+fn judge<S: Source>(source: &S, found: &Numbers, x: usize) -> bool
+    requires number { x < 3 ^ (S.Source.meaning source.now).inputs }
+    requires later { (y : ℕ) → x < y → y < 3 ^ (S.Source.meaning source.now).inputs → member found.now y ≡ implicant_at (S.Source.meaning source.now) y }
     ensures { result ≡ implicant_at (S.Source.meaning source.now) x }
 {
-    match unread(x, n) {
+    match unread(x, source.inputs()) {
         Some(i) => {
             let step = power(i);
             found.contains(x + step) && found.contains(x + 2 * step)
