@@ -1,10 +1,10 @@
 // The chart of the primes of a table: a column for each prime, in order.
 ghost use Rattle.std.specs.Prelude.{◌≡◌};
-ghost use Rattle.covers.specs.Charting.{prime_grid, prime_grid_small, prime_at};
+ghost use Rattle.covers.specs.Charting.{prime_grid, prime_grid_small, prime_at, need_at};
 
 use charts::Chart;
 use orders::CostOrder;
-use primes::{NeedList, PrimeList};
+use primes::{Need, NeedList, PrimeList};
 use terms::Term;
 
 // The primes, and the needs that a cover must hold.
@@ -15,11 +15,18 @@ pub struct PrimeChart {
 }
 
 impl PrimeChart {
-    // The prime of a column.
+    // The prime of a column; past the last column, the term that reads no input.
     pub fn term(&self, column: usize) -> Term
         ensures { result ≡ prime_at self.now.list column }
     {
-        self.list.primes[column.min(255)].term
+        self.list.get(column).unwrap_or_default().term
+    }
+
+    // The need of a number; past the last, the row 0.
+    fn need(&self, number: usize) -> Need
+        ensures { result ≡ need_at self.now.needs number }
+    {
+        self.needs.get(number).unwrap_or_default()
     }
 }
 
@@ -29,16 +36,16 @@ impl Chart for PrimeChart {
     ghost small = { λ c. prime_grid_small c.list c.needs };
 
     fn columns(&self) -> usize {
-        self.list.count.min(256)
+        self.list.len()
     }
 
     fn needs(&self) -> usize {
-        self.needs.count.min(1280)
+        self.needs.len()
     }
 
     fn holds(&self, column: usize, need: usize) -> bool {
         let term = self.term(column);
-        let rows = self.needs.needs[need.min(1279)];
+        let rows = self.need(need);
         term.holds(rows.low) && term.holds(rows.high)
     }
 

@@ -1,8 +1,11 @@
 -- The digits of a number in base three, one by one.
-use Rattle.std.proofs.Common.{◌≡◌, ℕ, zero, suc, ◌+◌, ◌-◌, ◌*◌, ◌/◌, ◌%◌, ◌^◌, ◌<◌, ◌≤◌, Bool, ◌&&◌, List, [], ◌∷◌, length, get_or, set, sym, refl, ap, ◌∙◌, subst, ap₂, le_of_suc-le-suc, not-suc-le-zero, add_comm, pow-suc, zero-add, zero-mul, arith, length-set, pow_mono}
-use native.Mathlib.Nat.{div-div-eq-div-mul, pow-succ'}
+use Rattle.std.proofs.Common.{◌≡◌, ℕ, zero, suc, ◌+◌, ◌*◌, ◌/◌, ◌%◌, ◌^◌, ◌<◌, ◌≤◌, Bool, ◌&&◌, List, [], ◌∷◌, length, get_or, set, sym, refl, ap, ◌∙◌, subst, ap₂, le_of_suc-le-suc, not-suc-le-zero, add-one, add_comm, pow-suc, zero-add, zero-mul, arith, length-set}
+use native.Mathlib.Nat.{div-div-eq-div-mul, pow-succ', add-mul, mul_comm, mul_assoc, mul-one}
+use Rattle.std.specs.List.{range_with_len, sum_by}
+use Rattle.std.proofs.lemmas.List.Sums.{sum_by-cons}
 use Rattle.primes.specs.Cubes.{Digit, free, low, high, dig, cube_of, read_bit, level_bit, mask_in, levels_in}
 use Rattle.primes.proofs.Cube.{val, num, imp}
+use Rattle.primes.proofs.CubeBytes.{level_lt}
 use Rattle.primes.proofs.CubeLaws.{cube_of_num, num_cube_of, length_cube_of, num_lt, num_set, imp_split}
 
 pub pow3_pos : (i : ℕ) → 0 < 3 ^ i
@@ -12,41 +15,9 @@ pow3_pos (suc i) = omega (arith, pow3_pos i, pow-suc 3 i)
 pub div_suc : (x i : ℕ) → x / 3 ^ i / 3 ≡ x / 3 ^ suc i
 div_suc x i = div-div-eq-div-mul x (3 ^ i) 3 ∙ ap (λ (y : ℕ). x / y) (sym (pow-suc 3 i))
 
-pub digits_step : (n i x : ℕ) → i < n → cube_of (n - i) (x / 3 ^ i) ≡ dig (x / 3 ^ i % 3) ∷ cube_of (n - suc i) (x / 3 ^ suc i)
-digits_step n i x h =
-    let e : n - i ≡ suc (n - suc i) = omega arith in
-    ap (λ (k : ℕ). cube_of k (x / 3 ^ i)) e ∙ ap (λ (y : ℕ). dig (x / 3 ^ i % 3) ∷ cube_of (n - suc i) y) (div_suc x i)
-
-pub wants_half : (d : ℕ) → d < 3 → level_bit (dig d) ≡ d / 2
-wants_half zero h = refl
-wants_half (suc zero) h = refl
-wants_half (suc (suc zero)) h = refl
-wants_half (suc (suc (suc d))) h = absurd (omega arith)
-
-wants_le : (d : Digit) → level_bit d < 2
-wants_le free = omega arith
-wants_le low = omega arith
-wants_le high = omega arith
-
 pub levels_lt : (n x : ℕ) → levels_in (cube_of n x) < 2 ^ n
 levels_lt zero x = omega arith
-levels_lt (suc n) x = omega (arith, levels_lt n (x / 3), wants_le (dig (x % 3)), pow-suc 2 n)
-
-pub levels_step : (n i x : ℕ) → i < n → levels_in (cube_of (n - i) (x / 3 ^ i)) ≡ 2 * levels_in (cube_of (n - suc i) (x / 3 ^ suc i)) + x / 3 ^ i % 3 / 2
-levels_step n i x h =
-    let a = ap levels_in (digits_step n i x h) in
-    let b = wants_half (x / 3 ^ i % 3) (omega arith) in
-    omega arith
-
-pub levels_down : (n i x : ℕ) → 0 < i → i ≤ n
-    → levels_in (cube_of (n - (i - 1)) (x / 3 ^ (i - 1))) ≡ 2 * levels_in (cube_of (n - i) (x / 3 ^ i)) + x / 3 ^ (i - 1) % 3 / 2
-levels_down n i x h k =
-    let e : suc (i - 1) ≡ i = omega arith in
-    subst (λ (j : ℕ). levels_in (cube_of (n - (i - 1)) (x / 3 ^ (i - 1))) ≡ 2 * levels_in (cube_of (n - j) (x / 3 ^ j)) + x / 3 ^ (i - 1) % 3 / 2)
-    e (levels_step n (i - 1) x (omega arith))
-
-pub levels_small : (n x : ℕ) → n ≤ 8 → levels_in (cube_of n x) < 256
-levels_small n x h = omega (arith, levels_lt n x, pow_mono {i = n} {j = 8} h)
+levels_lt (suc n) x = omega (arith, levels_lt n (x / 3), level_lt (dig (x % 3)), pow-suc 2 n)
 
 pub get_or_cube_of : (n i x : ℕ) → i < n → get_or (cube_of n x) i free ≡ dig (x / 3 ^ i % 3)
 get_or_cube_of zero i x h = absurd (not-suc-le-zero h)
@@ -99,41 +70,41 @@ pub full_at : (n x : ℕ) (f : ℕ → Bool) → ((k : ℕ) → k < n → x / 3 
 full_at n x f h =
     imp_full (cube_of n x) f (λ i k e. let m : i < n = omega (arith, length_cube_of n x) in h i m (dig_free (x / 3 ^ i % 3) (sym (get_or_cube_of n i x m) ∙ e)))
 
--- ---- the same for the inputs that are read
-pub reads_half : (d : ℕ) → d < 3 → read_bit (dig d) ≡ (d + 1) / 2
-reads_half zero h = refl
-reads_half (suc zero) h = refl
-reads_half (suc (suc zero)) h = refl
-reads_half (suc (suc (suc d))) h = absurd (omega arith)
+-- ---- the mask and the levels, bit by bit
+module _ (b : Digit → ℕ) (v : List Digit → ℕ) (none : v [] ≡ 0) (more : (d : Digit) (ds : List Digit) → v (d ∷ ds) ≡ b d + 2 * v ds) where
+  one_place : (d w p : ℕ) → d * p + w * (2 * p) ≡ (d + 2 * w) * p
+  one_place d w p = sym (add-mul d (2 * w) p ∙ ap (λ (k : ℕ). d * p + k) (ap (λ (k : ℕ). k * p) (mul_comm 2 w) ∙ mul_assoc w 2 p))
 
-reads_le : (d : Digit) → read_bit d < 2
-reads_le free = omega arith
-reads_le low = omega arith
-reads_le high = omega arith
+  places : (x a n : ℕ) → sum_by (λ i. b (dig (x / 3 ^ i % 3)) * 2 ^ i) (range_with_len a n) ≡ v (cube_of n (x / 3 ^ a)) * 2 ^ a
+  places x a zero = sym (ap (λ (k : ℕ). k * 2 ^ a) none ∙ zero-mul (2 ^ a))
+  places x a (suc n) =
+      let h : ℕ → ℕ = λ i. b (dig (x / 3 ^ i % 3)) * 2 ^ i in
+      let d : ℕ = b (dig (x / 3 ^ a % 3)) in
+      let w : ℕ = v (cube_of n (x / 3 ^ a / 3)) in
+      let next : x / 3 ^ (a + 1) ≡ x / 3 ^ a / 3 = ap (λ (k : ℕ). x / 3 ^ k) (add-one a) ∙ sym (div_suc x a) in
+      let twice : 2 ^ (a + 1) ≡ 2 * 2 ^ a = ap (λ (k : ℕ). 2 ^ k) (add-one a) ∙ pow-suc 2 a ∙ mul_comm (2 ^ a) 2 in
+      sum_by-cons h a (range_with_len (a + 1) n)
+      ∙ ap (λ (k : ℕ). d * 2 ^ a + k) (places x (a + 1) n ∙ ap₂ (λ (y k : ℕ). v (cube_of n y) * k) next twice)
+      ∙ one_place d w (2 ^ a)
+      ∙ ap (λ (k : ℕ). k * 2 ^ a) (sym (more (dig (x / 3 ^ a % 3)) (cube_of n (x / 3 ^ a / 3))))
 
-pub masks_lt : (n x : ℕ) → mask_in (cube_of n x) < 2 ^ n
-masks_lt zero x = omega arith
-masks_lt (suc n) x = omega (arith, masks_lt n (x / 3), reads_le (dig (x % 3)), pow-suc 2 n)
+  all_places : (x n : ℕ) → sum_by (λ i. b (dig (x / 3 ^ i % 3)) * 2 ^ i) (range_with_len 0 n) ≡ v (cube_of n x)
+  all_places x n = let e : x / 1 ≡ x = omega arith in places x 0 n ∙ ap (λ (y : ℕ). v (cube_of n y) * 1) e ∙ mul-one (v (cube_of n x))
 
-masks_step : (n i x : ℕ) → i < n → mask_in (cube_of (n - i) (x / 3 ^ i)) ≡ 2 * mask_in (cube_of (n - suc i) (x / 3 ^ suc i)) + (x / 3 ^ i % 3 + 1) / 2
-masks_step n i x h =
-    let a = ap mask_in (digits_step n i x h) in
-    let b = reads_half (x / 3 ^ i % 3) (omega arith) in
+pub mask_by_bits : (x n : ℕ) → sum_by (λ i. read_bit (dig (x / 3 ^ i % 3)) * 2 ^ i) (range_with_len 0 n) ≡ mask_in (cube_of n x)
+mask_by_bits = all_places read_bit mask_in refl (λ d ds. refl)
+
+pub levels_by_bits : (x n : ℕ) → sum_by (λ i. level_bit (dig (x / 3 ^ i % 3)) * 2 ^ i) (range_with_len 0 n) ≡ levels_in (cube_of n x)
+levels_by_bits = all_places level_bit levels_in refl (λ d ds. refl)
+
+-- a number of n inputs has the same levels read as one of more
+pub levels_same : (m n x : ℕ) → n ≤ m → x < 3 ^ n → levels_in (cube_of m x) ≡ levels_in (cube_of n x)
+levels_same zero zero x h k = refl
+levels_same zero (suc n) x h k = absurd (omega arith)
+levels_same (suc m) zero x h k =
+    let e : x ≡ 0 = omega arith in
+    let rec : levels_in (cube_of m (x / 3)) ≡ 0 = levels_same m 0 (x / 3) (omega arith) (omega arith) in
+    let d = ap (λ (y : ℕ). level_bit (dig (y % 3))) e in
     omega arith
-
-pub masks_down : (n i x : ℕ) → 0 < i → i ≤ n
-    → mask_in (cube_of (n - (i - 1)) (x / 3 ^ (i - 1))) ≡ 2 * mask_in (cube_of (n - i) (x / 3 ^ i)) + (x / 3 ^ (i - 1) % 3 + 1) / 2
-masks_down n i x h k =
-    let e : suc (i - 1) ≡ i = omega arith in
-    subst (λ (j : ℕ). mask_in (cube_of (n - (i - 1)) (x / 3 ^ (i - 1))) ≡ 2 * mask_in (cube_of (n - j) (x / 3 ^ j)) + (x / 3 ^ (i - 1) % 3 + 1) / 2)
-    e (masks_step n (i - 1) x (omega arith))
-
-pub masks_small : (n x : ℕ) → n ≤ 8 → mask_in (cube_of n x) < 256
-masks_small n x h = omega (arith, masks_lt n x, pow_mono {i = n} {j = 8} h)
-
-pub cube_end : (n i x : ℕ) → i ≤ 0 → cube_of (n - i) (x / 3 ^ i) ≡ cube_of n x
-cube_end n i x h =
-    let a : n - i ≡ n = omega arith in
-    let e : i ≡ 0 = omega arith in
-    let b : x / 1 ≡ x = omega arith in
-    ap₂ cube_of a (ap (λ (j : ℕ). x / 3 ^ j) e ∙ b)
+levels_same (suc m) (suc n) x h k =
+    ap (λ (w : ℕ). level_bit (dig (x % 3)) + 2 * w) (levels_same m n (x / 3) (le_of_suc-le-suc h) (omega (arith, pow-suc 3 n)))

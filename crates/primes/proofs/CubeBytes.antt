@@ -17,6 +17,17 @@ abbrev pub cube : ℕ → ℕ → ℕ → List Digit
 cube zero m l = []
 cube (suc n) m l = digit (m % 2) (l % 2) ∷ cube n (m / 2) (l / 2)
 
+-- an input's bit of the mask and its bit of the levels
+pub read_lt : (d : Digit) → read_bit d < 2
+read_lt free = omega arith
+read_lt low = omega arith
+read_lt high = omega arith
+
+pub level_lt : (d : Digit) → level_bit d < 2
+level_lt free = omega arith
+level_lt low = omega arith
+level_lt high = omega arith
+
 abbrev Sub : ℕ → ℕ → Type 0
 Sub m l = bit_and l m ≡ l
 

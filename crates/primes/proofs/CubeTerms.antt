@@ -12,7 +12,7 @@ use Rattle.primes.specs.Cubes.{Digit, free, low, high, dig, cube_of, read_bit, l
 use Rattle.primes.specs.Primes.{every, allowed, spares_off, cleared, can_drop, is_prime, implicant_at}
 use Rattle.primes.proofs.Cube.{imp, val, num, is_free, stands, trial}
 use Rattle.primes.proofs.CubeLaws.{implicant_from_imp, imp_from_implicant, num_cube_of}
-use Rattle.primes.proofs.CubeBytes.{digit, cube, cube_of_number, mask_cube, levels_cube, contains_cube}
+use Rattle.primes.proofs.CubeBytes.{read_lt, level_lt, digit, cube, cube_of_number, mask_cube, levels_cube, contains_cube}
 
 -- ---- tests over all numbers below a bound
 pub every_at : (f : ℕ → Bool) (n k : ℕ) → every f n ≡ true → k < n → f k ≡ true
@@ -160,16 +160,6 @@ unfolding term_of
 term_of_number t =
     let e = cube_of_lem 8 t (omega arith) in
     same_term (term_of (number t)) t (ap mask_in e ∙ mask_cube 8 t.mask t.levels t.byte) (ap levels_in e ∙ levels_cube 8 t.mask t.levels (levels_byte t) t.within)
-
-read_lt : (d : Digit) → read_bit d < 2
-read_lt free = omega arith
-read_lt low = omega arith
-read_lt high = omega arith
-
-level_lt : (d : Digit) → level_bit d < 2
-level_lt free = omega arith
-level_lt low = omega arith
-level_lt high = omega arith
 
 horner_cons : (k b m : ℕ) → b < 2 → horner (suc k) (b + 2 * m) ≡ b + 3 * horner k m
 horner_cons k b m h =

@@ -1,27 +1,19 @@
 -- Which primes are essential, need by need.
-use Rattle.std.proofs.Common.{◌≡◌, ℕ, zero, suc, ◌+◌, ◌<◌, ◌≤◌, Bool, true, false, cond, ◌&&◌, ◌||◌, eqb, List, [], ◌∷◌, ◌++◌, map, length, get_or, take, set, filter, sym, refl, ap, ◌∙◌, subst, ap₂, inl, inr, le_of_suc-le-suc, not-suc-le-zero, arith, length-set, take_all, get_or-set_other, take-suc, get_or-set_same, ext_get_or}
+use Rattle.std.proofs.Common.{◌≡◌, ℕ, zero, suc, ◌+◌, ◌<◌, ◌≤◌, Bool, true, false, cond, not, ◌&&◌, ◌||◌, eqb, List, [], ◌∷◌, ◌++◌, map, length, get_or, take, drop, set, Some, None, filter, position, nat_lt, ◌==◌, add-one, drop-cons, sym, refl, ap, ◌∙◌, subst, ap₂, inl, inr, le_of_suc-le-suc, not-suc-le-zero, arith, length-set, get_or-set_other, take-suc, get_or-set_same, ext_get_or}
 use lib.ListN.{length-map}
-use Rattle.std.proofs.lemmas.Bool.{cases_eq, cases_Bool, eq-eqb, ne_eqb, and_left, and_right, and_from}
+use Rattle.std.specs.List.{position_or_len}
+use Rattle.std.proofs.lemmas.List.{drop_all, get_or-map}
+use Rattle.std.proofs.Math.Bool.{or-false, or-true, or_assoc}
+use Rattle.std.proofs.lemmas.List.Quantifiers.{position-Some}
+use Rattle.std.proofs.lemmas.Bool.{cases_eq, cases_Bool, eq-eqb, eqb-true, ltb-false, ne_eqb, and_left, and_right, and_from}
 use Rattle.terms.specs.declared.term.Term.{Term}
-use Rattle.terms.specs.Lists.{padded}
+use Rattle.fixed.specs.declared.list.FixedList.{FixedList}
+use Rattle.fixed.specs.Lists.{entries}
 use Rattle.terms.specs.Terms.{number}
-use Rattle.terms.proofs.Padding.{take_padded, get_or_padded, set_padded}
 use Rattle.primes.specs.declared.need.Need.{Need}
 use Rattle.primes.specs.declared.prime.Prime.{Prime}
-use Rattle.primes.specs.declared.prime.PrimeList.{PrimeList}
 use Rattle.primes.specs.Needs.{meets}
-use Rattle.primes.specs.Records.{held, holders, is_essential, record_of, no_prime, records_in, record_meets}
-
--- ---- lists
-pub get_or_any : {A : Type 0} (xs : List A) (i : ℕ) (d e : A) → i < length xs → get_or xs i d ≡ get_or xs i e
-get_or_any [] i d e h = absurd (not-suc-le-zero h)
-get_or_any (x ∷ xs) zero d e h = refl
-get_or_any (x ∷ xs) (suc i) d e h = get_or_any xs i d e (le_of_suc-le-suc h)
-
-pub get_or_map_at : {A B : Type 0} (f : A → B) (xs : List A) (i : ℕ) (d : A) (e : B) → i < length xs → get_or (map f xs) i e ≡ f (get_or xs i d)
-get_or_map_at f [] i d e h = absurd (not-suc-le-zero h)
-get_or_map_at f (x ∷ xs) zero d e h = refl
-get_or_map_at f (x ∷ xs) (suc i) d e h = get_or_map_at f xs i d e (le_of_suc-le-suc h)
+use Rattle.primes.specs.Records.{held, holders, is_essential, no_prime, record_meets, sole_place}
 
 pub length_kept_map : {A B : Type 0} (q : B → Bool) (f : A → B) (xs : List A) → length (filter q (map f xs)) ≡ length (filter (λ x. q (f x)) xs)
 length_kept_map q f [] = refl
@@ -61,34 +53,81 @@ only_one q (x ∷ xs) (suc i) (suc j) d e h k a b =
     go true g f s rec = absurd (omega arith)
     go false g f s rec = ap suc (rec f)
 
+-- ---- the place of the only one that passes
+module _ {A : Type 0} (p : A → Bool) where
+  -- what passes from the first place on
+  from_first : (xs : List A) → length (filter p xs) ≡ length (filter p (drop (position_or_len p xs) xs))
+  from_first [] = refl
+  from_first (x ∷ xs) = go (p x) refl (from_first xs)
+    where
+      go : (b : Bool) → p x ≡ b → length (filter p xs) ≡ length (filter p (drop (position_or_len p xs) xs))
+          → length (cond b (x ∷ filter p xs) (filter p xs)) ≡ length (filter p (drop (cond (not b) (1 + position_or_len p xs) 0) (x ∷ xs)))
+      go true e h = ap (λ (t : Bool). length (cond t (x ∷ filter p xs) (filter p xs))) (sym e)
+      go false e h =
+          let k : 1 + position_or_len p xs ≡ suc (position_or_len p xs) = omega arith in
+          h ∙ ap (λ (n : ℕ). length (filter p (drop n (x ∷ xs)))) (sym k)
+
+  none_passes : (xs : List A) → position p xs ≡ None → length (filter p xs) ≡ 0
+  none_passes xs e =
+      let past : length xs ≤ position_or_len p xs = go (nat_lt (position_or_len p xs) (length xs)) refl e in
+      from_first xs ∙ ap (λ (ys : List A). length (filter p ys)) (drop_all (position_or_len p xs) xs past)
+    where
+      go : (b : Bool) → nat_lt (position_or_len p xs) (length xs) ≡ b → cond b (Some (position_or_len p xs)) None ≡ None → length xs ≤ position_or_len p xs
+      go true h e = cc
+      go false h e = ltb-false (position_or_len p xs) (length xs) h
+
+  one_more : (xs : List A) (i : ℕ) (d : A) → position p xs ≡ Some i → length (filter p xs) ≡ suc (length (filter p (drop (i + 1) xs)))
+  one_more xs i d e =
+      let w = position-Some p xs i d e in
+      let k : position_or_len p xs ≡ i = go (nat_lt (position_or_len p xs) (length xs)) e in
+      from_first xs
+      ∙ ap (λ (n : ℕ). length (filter p (drop n xs))) k
+      ∙ ap (λ (ys : List A). length (filter p ys)) (drop-cons xs i d w.0)
+      ∙ ap (λ (b : Bool). length (cond b (get_or xs i d ∷ filter p (drop (suc i) xs)) (filter p (drop (suc i) xs)))) w.1
+      ∙ ap (λ (n : ℕ). suc (length (filter p (drop n xs)))) (sym (add-one i))
+    where
+      go : (b : Bool) → cond b (Some (position_or_len p xs)) None ≡ Some i → position_or_len p xs ≡ i
+      go true e = cc
+      go false e = cc
+
+  pub sole_not : (xs : List A) (i j : ℕ) (d : A) → position p xs ≡ Some i → position p (drop (i + 1) xs) ≡ Some j → sole_place p xs ≡ None
+  sole_not xs i j d e m =
+      let a = one_more xs i d e in
+      let b = one_more (drop (i + 1) xs) j d m in
+      ap (λ (t : Bool). cond t (position p xs) None) (ne_eqb (length (filter p xs)) 1 (λ z. omega arith))
+
+  pub sole_there : (xs : List A) (i : ℕ) (d : A) → position p xs ≡ Some i → position p (drop (i + 1) xs) ≡ None → sole_place p xs ≡ Some i
+  sole_there xs i d e m =
+      let a = one_more xs i d e in
+      let b = none_passes (drop (i + 1) xs) m in
+      ap (λ (t : Bool). cond t (position p xs) None) (eq-eqb (length (filter p xs)) 1 (omega arith)) ∙ e
+
+  -- and back
+  pub none_sole : (xs : List A) → sole_place p xs ≡ None → length (filter p xs) ≡ 1 → ⊥
+  none_sole xs e one =
+      let z = none_passes xs (sym (ap (λ (t : Bool). cond t (position p xs) None) (eq-eqb (length (filter p xs)) 1 one)) ∙ e) in
+      omega arith
+
+  pub is_sole : (xs : List A) (i : ℕ) (d : A) → sole_place p xs ≡ Some i → (i < length xs) × (p (get_or xs i d) ≡ true) × (length (filter p xs) ≡ 1)
+  is_sole xs i d e =
+      let w = go (length (filter p xs) == 1) refl e in
+      let v = position-Some p xs i d w.1 in
+      (v.0, v.1, w.0)
+    where
+      go : (b : Bool) → (length (filter p xs) == 1) ≡ b → cond b (position p xs) None ≡ Some i → (length (filter p xs) ≡ 1) × (position p xs ≡ Some i)
+      go true h e = (eqb-true (length (filter p xs)) 1 h, e)
+      go false h e = cc
+
 -- ---- records as far as the needs have been gone through
 abbrev pub noted : List Term → List Need → List Need → Term → Prime
 noted ps ds es t = record { term = t; number = number t; needs = held ds t; essential = is_essential ps es t }
 
-or_false : (b : Bool) → (b || false) ≡ b
-or_false true = refl
-or_false false = refl
-
-or_assoc : (a b c : Bool) → (a || (b || c)) ≡ ((a || b) || c)
-or_assoc true b c = refl
-or_assoc false b c = refl
-
-or_swap : (a b : Bool) → (a || b) ≡ (b || a)
-or_swap true true = refl
-or_swap true false = refl
-or_swap false true = refl
-or_swap false false = refl
-
-or_true : (b : Bool) → (b || true) ≡ true
-or_true true = refl
-or_true false = refl
-
 essential_more : (ps : List Term) (es : List Need) (d : Need) (t : Term)
     → is_essential ps (es ++ d ∷ []) t ≡ (is_essential ps es t || (meets t d && eqb (holders ps d) 1))
-essential_more ps [] d t = or_false (meets t d && eqb (holders ps d) 1)
+essential_more ps [] d t = or-false (meets t d && eqb (holders ps d) 1)
 essential_more ps (e ∷ es) d t =
     ap (λ (b : Bool). (meets t e && eqb (holders ps e) 1) || b) (essential_more ps es d t)
-    ∙ or_assoc (meets t e && eqb (holders ps e) 1) (is_essential ps es t) (meets t d && eqb (holders ps d) 1)
+    ∙ sym (or_assoc (meets t e && eqb (holders ps e) 1) (is_essential ps es t) (meets t d && eqb (holders ps d) 1))
 
 module _ (ps : List Term) (ds : List Need) (k : ℕ) (d₀ : Need) (h : k < length ds) where
   essential_next : (t : Term) → is_essential ps (take (k + 1) ds) t ≡ (is_essential ps (take k ds) t || (meets t (get_or ds k d₀) && eqb (holders ps (get_or ds k d₀)) 1))
@@ -100,7 +139,7 @@ module _ (ps : List Term) (ds : List Need) (k : ℕ) (d₀ : Need) (h : k < leng
   same_essential : (t : Term) → (meets t (get_or ds k d₀) && eqb (holders ps (get_or ds k d₀)) 1) ≡ false → noted ps ds (take k ds) t ≡ noted ps ds (take (k + 1) ds) t
   same_essential t e =
       ap (λ (b : Bool). record { term = t; number = number t; needs = held ds t; essential = b })
-      (sym (essential_next t ∙ ap (λ (b : Bool). is_essential ps (take k ds) t || b) e ∙ or_false (is_essential ps (take k ds) t)))
+      (sym (essential_next t ∙ ap (λ (b : Bool). is_essential ps (take k ds) t || b) e ∙ or-false (is_essential ps (take k ds) t)))
 
   map_same : {A B : Type 0} (f g : A → B) (xs : List A) → ((x : A) → f x ≡ g x) → map f xs ≡ map g xs
   map_same f g [] e = refl
@@ -132,57 +171,43 @@ module _ (ps : List Term) (ds : List Need) (k : ℕ) (d₀ : Need) (h : k < leng
             ∙ q
             ∙ ap (λ (x : Bool). record { term = t; number = number t; needs = held ds t; essential = x })
             (sym (essential_next t ∙ ap (λ (x : Bool). is_essential ps (take k ds) t || x) (and_from (meets t need) (eqb (holders ps need) 1) m (eq-eqb (holders ps need) 1 one))
-            ∙ or_true (is_essential ps (take k ds) t)))
-            ∙ sym (get_or_map_at g ps at t₀ no_prime a)
+            ∙ or-true (is_essential ps (take k ds) t)))
+            ∙ sym (get_or-map g ps at t₀ no_prime a)
             ∙ ap (λ (x : ℕ). get_or (map g ps) x no_prime) (sym e)
         | inr n ↦
             let t : Term = get_or ps j t₀ in
             let miss : meets t need ≡ false =
             elim (cases_Bool (meets t need)) [ inl y ↦ absurd (n (only_one (λ p. meets p need) ps j at t₀ one b a y m)) | inr y ↦ y ] in
             get_or-set_other (map f ps) at j r no_prime n
-            ∙ get_or_map_at f ps j t₀ no_prime b
+            ∙ get_or-map f ps j t₀ no_prime b
             ∙ same_essential t (and_left (meets t need) (eqb (holders ps need) 1) miss)
-            ∙ sym (get_or_map_at g ps j t₀ no_prime b)
+            ∙ sym (get_or-map g ps j t₀ no_prime b)
       ])
 
 -- ---- the list, need by need
-abbrev pub Noting : List Term → List Need → ℕ → PrimeList → Type 0
-Noting ps ds k l = (l.count ≡ length ps) × (l.primes ≡ padded 256 no_prime (map (noted ps ds (take k ds)) ps))
+abbrev pub Noting : List Term → List Need → ℕ → FixedList Prime 256 → Type 0
+Noting ps ds k l = entries l ≡ map (noted ps ds (take k ds)) ps
 
-module _ (ps : List Term) (ds : List Need) (k : ℕ) (d₀ : Need) (h : k < length ds) (l : PrimeList) (inv : Noting ps ds k l) where
-  records_in_lem : records_in l ≡ map (noted ps ds (take k ds)) ps
-  records_in_lem =
-      ap₂ take (inv.0 ∙ sym (length-map ps (noted ps ds (take k ds)))) inv.1 ∙ take_padded 256 no_prime (map (noted ps ds (take k ds)) ps)
-
-  holders_in : length (filter (record_meets (get_or ds k d₀)) (records_in l)) ≡ holders ps (get_or ds k d₀)
+module _ (ps : List Term) (ds : List Need) (k : ℕ) (d₀ : Need) (h : k < length ds) (l : FixedList Prime 256) (inv : Noting ps ds k l) where
+  holders_in : length (filter (record_meets (get_or ds k d₀)) (entries l)) ≡ holders ps (get_or ds k d₀)
   holders_in =
-      ap (λ (rs : List Prime). length (filter (record_meets (get_or ds k d₀)) rs)) records_in_lem
+      ap (λ (rs : List Prime). length (filter (record_meets (get_or ds k d₀)) rs)) inv
       ∙ length_kept_map (record_meets (get_or ds k d₀)) (noted ps ds (take k ds)) ps
 
-  pub noting_none : (m : PrimeList) → m ≡ l → (length (filter (record_meets (get_or ds k d₀)) (records_in l)) ≡ 1 → ⊥) → Noting ps ds (k + 1) m
-  noting_none m e z = (
-    ap (λ (x : PrimeList). x.count) e ∙ inv.0,
-    ap (λ (x : PrimeList). x.primes) e ∙ inv.1 ∙ ap (padded 256 no_prime) (noted_none ps ds k d₀ h (λ q. z (holders_in ∙ q))),
-  )
+  pub noting_none : (length (filter (record_meets (get_or ds k d₀)) (entries l)) ≡ 1 → ⊥) → Noting ps ds (k + 1) l
+  noting_none z = inv ∙ noted_none ps ds k d₀ h (λ q. z (holders_in ∙ q))
 
-  pub noting_sole : (m : PrimeList) (at : ℕ) (r : Prime) → at < l.count → record_meets (get_or ds k d₀) (get_or l.primes at no_prime) ≡ true
-      → length (filter (record_meets (get_or ds k d₀)) (records_in l)) ≡ 1
-      → r ≡ record { term = (get_or l.primes at no_prime).term; number = (get_or l.primes at no_prime).number; needs = (get_or l.primes at no_prime).needs; essential = true }
-      → m.count ≡ l.count → m.primes ≡ set l.primes at r → Noting ps ds (k + 1) m
-  noting_sole m at r a y one q c e =
+  pub noting_sole : (m : FixedList Prime 256) (at : ℕ) (r : Prime) → at < length (entries l) → record_meets (get_or ds k d₀) (get_or (entries l) at no_prime) ≡ true
+      → length (filter (record_meets (get_or ds k d₀)) (entries l)) ≡ 1
+      → r ≡ record { term = (get_or (entries l) at no_prime).term; number = (get_or (entries l) at no_prime).number; needs = (get_or (entries l) at no_prime).needs; essential = true }
+      → entries m ≡ set (entries l) at r → Noting ps ds (k + 1) m
+  noting_sole m at r a y one q e =
       let t₀ : Term = no_prime.term in
       let g : Term → Prime = noted ps ds (take k ds) in
-      let b : at < length ps = subst (λ (x : ℕ). at < x) inv.0 a in
-      let lg : length (map g ps) ≡ length ps = length-map ps g in
-      let bm : at < length (map g ps) = subst (λ (x : ℕ). at < x) (sym lg) b in
-      let here : get_or l.primes at no_prime ≡ g (get_or ps at t₀) =
-      ap (λ (xs : List Prime). get_or xs at no_prime) inv.1 ∙ get_or_padded 256 no_prime (map g ps) at no_prime bm ∙ get_or_map_at g ps at t₀ no_prime b in
+      let b : at < length ps = subst (λ (x : ℕ). at < x) (ap length inv ∙ length-map ps g) a in
+      let here : get_or (entries l) at no_prime ≡ g (get_or ps at t₀) =
+      ap (λ (xs : List Prime). get_or xs at no_prime) inv ∙ get_or-map g ps at t₀ no_prime b in
       let r' : r ≡ record { term = get_or ps at t₀; number = number (get_or ps at t₀); needs = held ds (get_or ps at t₀); essential = true } =
-      q ∙ ap (λ (x : Prime). record { term = x.term; number = x.number; needs = x.needs; essential = true }) here in (
-        c ∙ inv.0,
-        e ∙ ap (λ (xs : List Prime). set xs at r) inv.1 ∙ set_padded 256 no_prime (map g ps) at r bm
-            ∙ ap (padded 256 no_prime) (noted_sole ps ds k d₀ h at t₀ b (sym (ap (record_meets (get_or ds k d₀)) here) ∙ y) (sym holders_in ∙ one) r r'),
-      )
-
-pub noting_all : (ps : List Term) (ds : List Need) (k : ℕ) (l : PrimeList) → length ds ≤ k → Noting ps ds k l → l.primes ≡ padded 256 no_prime (map (record_of ps ds) ps)
-noting_all ps ds k l h inv = inv.1 ∙ ap (λ (es : List Need). padded 256 no_prime (map (noted ps ds es) ps)) (take_all k ds h)
+      q ∙ ap (λ (x : Prime). record { term = x.term; number = x.number; needs = x.needs; essential = true }) here in
+      e ∙ ap (λ (xs : List Prime). set xs at r) inv
+      ∙ noted_sole ps ds k d₀ h at t₀ b (sym (ap (record_meets (get_or ds k d₀)) here) ∙ y) (sym holders_in ∙ one) r r'

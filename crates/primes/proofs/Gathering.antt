@@ -1,48 +1,53 @@
 -- The list of primes as far as the terms have been tried.
-use Rattle.std.proofs.Common.{◌≡◌, ℕ, ◌+◌, ◌^◌, ◌<◌, ◌≤◌, Bool, true, false, cond, List, [], ◌∷◌, ◌++◌, map, length, get_or, take, drop, set, replicate, Some, None, filter, sym, refl, ap, ◌∙◌, subst, ap₂, append-nil, arith, length-append}
+use Rattle.std.proofs.Common.{◌≡◌, ℕ, ◌+◌, ◌-◌, ◌*◌, ◌/◌, ◌%◌, ◌^◌, ◌<◌, ◌≤◌, Bool, true, false, not, cond, List, [], ◌∷◌, ◌++◌, map, length, take, drop, Some, None, filter, sym, refl, ap, ◌∙◌, subst, ap₂, append-nil, arith, length-append}
 use mathlib.Core.List.{map-append}
 use lib.ListN.{length-map}
 use Rattle.std.specs.List.{range_with_len}
 use Rattle.std.proofs.lemmas.List.FromFn.{filter_of_map_range_with_len_more, take-map-range_with_len}
 use Rattle.std.proofs.lemmas.List.Elements.{filter-append}
 use Rattle.std.proofs.lemmas.List.{take-append-drop}
-use Rattle.std.proofs.lemmas.Bool.{lt-ltb, le-ltb}
+use Rattle.std.proofs.lemmas.Bool.{le-ltb}
 use Rattle.terms.specs.declared.refusal.Refusal.TheVariants.{TooManyPrimes}
 use Rattle.terms.specs.declared.term.Term.{Term}
-use Rattle.terms.specs.Lists.{padded}
 use Rattle.terms.specs.Tables.{Table}
-use Rattle.terms.proofs.Padding.{padded_none, padded_push, take_padded}
+use Rattle.fixed.specs.declared.set.FixedSet.{FixedSet}
+use Rattle.fixed.specs.Sets.{member}
+use Rattle.fixed.specs.declared.list.FixedList.{FixedList}
+use Rattle.fixed.specs.Lists.{entries, entries_fit, pushed}
 use Rattle.primes.specs.declared.need.Need.{Need}
 use Rattle.primes.specs.declared.prime.Prime.{Prime}
-use Rattle.primes.specs.declared.prime.PrimeList.{PrimeList}
 use Rattle.primes.specs.Cubes.{term_of, cube_of}
-use Rattle.primes.specs.Primes.{allowed, implicant_at, is_prime, primes, terms_over}
-use Rattle.primes.specs.Records.{held, fresh, no_prime, terms_in, primes_break}
-use Rattle.primes.proofs.Cube.{imp, trial}
+use Rattle.primes.specs.Primes.{every, allowed, implicant_at, is_prime, primes, terms_over}
+use Rattle.primes.specs.Records.{held, fresh, terms_in, primes_break}
+use Rattle.primes.proofs.Cube.{imp, stands, trial}
 use Rattle.primes.proofs.CubeTerms.{prime_at_lem, number_term_of, pow3_le, implicant_at_lem}
-use Rattle.primes.proofs.Trials.{Right}
+use Rattle.fixed.proofs.Pushed.{pushed_fits}
+use Rattle.primes.proofs.Trials.{Right, stood, stands_unread, every_more, trial_now, trial_fails, trial_no_imp}
 
 -- the primes among the terms with numbers below x
 abbrev pub up_to : Table → ℕ → List Term
 up_to tb x = filter (is_prime tb) (map term_of (range_with_len 0 x))
 
-abbrev pub Gathered : Table → List Need → ℕ → PrimeList → Type 0
-Gathered tb ds x l =
-    (l.count ≡ length (up_to tb x)) × (length (up_to tb x) ≤ 256) × (l.primes ≡ padded 256 no_prime (map (fresh ds) (up_to tb x)))
+-- the list holds them
+abbrev pub Gathered : Table → List Need → ℕ → FixedList Prime 256 → Type 0
+Gathered tb ds x l = entries l ≡ map (fresh ds) (up_to tb x)
 
-pub gathered_none : (tb : Table) (ds : List Need) (l : PrimeList) → l.primes ≡ replicate 256 no_prime → l.count ≡ 0 → Gathered tb ds 0 l
-gathered_none tb ds l e c = (c, omega arith, e ∙ padded_none 256 no_prime)
+-- what every trial goes by: the inputs of the table, and the set of its implicants
+pub record Trying (tb : Table) (n : ℕ) (found : FixedSet 6561) : Type 0 where
+  pub few : tb.inputs ≤ 8
+  pub same : n ≡ tb.inputs
+  pub right : (y : ℕ) → y < 3 ^ tb.inputs → member found y ≡ implicant_at tb y
 
-module _ (tb : Table) (n x : ℕ) (few : n ≤ 8) (same : n ≡ tb.inputs) where
-  few_inputs : tb.inputs ≤ 8
-  few_inputs = subst (λ (k : ℕ). k ≤ 8) same few
+module _ (tb : Table) (n : ℕ) (found : FixedSet 6561) (t : Trying tb n found) where
+  few : n ≤ 8
+  few = subst (λ (k : ℕ). k ≤ 8) (sym t.same) t.few
 
-  pub right : (ys : List Bool) → ((y : ℕ) → y < 3 ^ tb.inputs → get_or ys y false ≡ implicant_at tb y) → Right n ys (allowed tb)
-  right ys h y k =
-      let l : y < 3 ^ tb.inputs = subst (λ (j : ℕ). y < 3 ^ j) same k in
-      h y l ∙ implicant_at_lem tb y few_inputs l ∙ ap (λ (j : ℕ). imp (cube_of j y) (allowed tb)) (sym same)
+  right : Right n found.on (allowed tb)
+  right y k =
+      let l : y < 3 ^ tb.inputs = subst (λ (j : ℕ). y < 3 ^ j) t.same k in
+      t.right y l ∙ implicant_at_lem tb y t.few l ∙ ap (λ (j : ℕ). imp (cube_of j y) (allowed tb)) (sym t.same)
 
-  module _ (h : x < 3 ^ n) where
+  module _ (x : ℕ) (h : x < 3 ^ n) where
     small : x < 6561
     small = let p = pow3_le n few in omega arith
 
@@ -50,40 +55,53 @@ module _ (tb : Table) (n x : ℕ) (few : n ≤ 8) (same : n ≡ tb.inputs) where
     up_more =
         filter_of_map_range_with_len_more (is_prime tb) term_of 0 x x (omega arith)
         ∙ ap (λ (b : Bool). up_to tb x ++ cond b (term_of x ∷ []) [])
-        (prime_at_lem tb x few_inputs (subst (λ (j : ℕ). x < 3 ^ j) same h) ∙ ap (λ (j : ℕ). trial j (allowed tb) x) (sym same))
+        (prime_at_lem tb x t.few (subst (λ (j : ℕ). x < 3 ^ j) t.same h) ∙ ap (λ (j : ℕ). trial j (allowed tb) x) (sym t.same))
 
-    pub up_skip : trial n (allowed tb) x ≡ false → up_to tb (x + 1) ≡ up_to tb x
+    up_skip : trial n (allowed tb) x ≡ false → up_to tb (x + 1) ≡ up_to tb x
     up_skip e = up_more ∙ ap (λ (b : Bool). up_to tb x ++ cond b (term_of x ∷ []) []) e ∙ append-nil (up_to tb x)
 
-    pub up_push : trial n (allowed tb) x ≡ true → up_to tb (x + 1) ≡ up_to tb x ++ term_of x ∷ []
+    up_push : trial n (allowed tb) x ≡ true → up_to tb (x + 1) ≡ up_to tb x ++ term_of x ∷ []
     up_push e = up_more ∙ ap (λ (b : Bool). up_to tb x ++ cond b (term_of x ∷ []) []) e
 
-    pub gathered_skip : (ds : List Need) (l : PrimeList) → trial n (allowed tb) x ≡ false → Gathered tb ds x l → Gathered tb ds (x + 1) l
-    gathered_skip ds l e g =
-        let u = sym (up_skip e) in
-        (g.0 ∙ ap length u, subst (λ (ts : List Term). length ts ≤ 256) u g.1, g.2 ∙ ap (λ (ts : List Term). padded 256 no_prime (map (fresh ds) ts)) u)
+    gathered_skip : (ds : List Need) (l : FixedList Prime 256) → trial n (allowed tb) x ≡ false → Gathered tb ds x l → Gathered tb ds (x + 1) l
+    gathered_skip ds l e g = g ∙ ap (map (fresh ds)) (sym (up_skip e))
 
-    pub gathered_push : (ds : List Need) (l m : PrimeList) → trial n (allowed tb) x ≡ true → (l.count ≡ 256 → ⊥)
-        → m.primes ≡ set l.primes l.count (record { term = term_of x; number = x; needs = held ds (term_of x); essential = false })
-        → m.count ≡ l.count + 1 → Gathered tb ds x l → Gathered tb ds (x + 1) m
-    gathered_push ds l m e z p c g =
+    -- no implicant is no prime
+    pub skipped : (ds : List Need) (l : FixedList Prime 256) → member found x ≡ false → Gathered tb ds x l → Gathered tb ds (x + 1) l
+    skipped ds l e = gathered_skip ds l (trial_no_imp n (allowed tb) x (sym (right x h) ∙ e))
+
+    -- the inputs below i cannot be dropped
+    abbrev pub Stand : ℕ → Type 0
+    Stand i = every (stands (allowed tb) (cube_of n x)) i ≡ true
+
+    -- input i, which the term reads, can be dropped if the term without it is an implicant
+    module _ (i d p : ℕ) (k : i < n) (e : d ≡ x / 3 ^ i % 3) (q : p ≡ 3 ^ i) (z : d ≡ 0 → ⊥) where
+      stays : stands (allowed tb) (cube_of n x) i ≡ not (member found (x - d * p))
+      stays = stood n i x d p found.on (allowed tb) k h e q z right
+
+      pub dropped : (ds : List Need) (l : FixedList Prime 256) → member found (x - d * p) ≡ true → Gathered tb ds x l → Gathered tb ds (x + 1) l
+      dropped ds l m = gathered_skip ds l (trial_fails n (allowed tb) x i k (stays ∙ ap not m))
+
+      pub stand_read : member found (x - d * p) ≡ false → Stand i → Stand (i + 1)
+      stand_read m s = every_more (stands (allowed tb) (cube_of n x)) i s (stays ∙ ap not m)
+
+    pub stand_unread : (i : ℕ) → i < n → x / 3 ^ i % 3 ≡ 0 → Stand i → Stand (i + 1)
+    stand_unread i k e s = every_more (stands (allowed tb) (cube_of n x)) i s (stands_unread n i x (allowed tb) k e)
+
+    -- an implicant of which no input can be dropped is a prime
+    pub passed : (i : ℕ) → member found x ≡ true → n ≤ i → i ≤ n → Stand i → trial n (allowed tb) x ≡ true
+    passed i m a b s = trial_now n x i found.on (allowed tb) h right m a b s
+
+    pub gathered_push : (ds : List Need) (l m : FixedList Prime 256) → trial n (allowed tb) x ≡ true → length (entries l) < 256
+        → entries m ≡ pushed 256 (entries l) (record { term = term_of x; number = x; needs = held ds (term_of x); essential = false })
+        → Gathered tb ds x l → Gathered tb ds (x + 1) m
+    gathered_push ds l m e z p g =
         let ts : List Term = up_to tb x in
-        let u : up_to tb (x + 1) ≡ ts ++ term_of x ∷ [] = up_push e in
-        let w = length-append ts (term_of x ∷ []) in
-        let v = ap length u in
-        let a = g.0 in
-        let b = g.1 in
-        let r : ◌≡◌ {A = Prime} (record { term = term_of x; number = x; needs = held ds (term_of x); essential = false }) (fresh ds (term_of x)) =
-        ap (λ (j : ℕ). record { term = term_of x; number = j; needs = held ds (term_of x); essential = false }) (sym (number_term_of x small)) in
-        let long : length (map (fresh ds) ts) ≡ length ts = length-map ts (fresh ds) in
-        let k : l.count ≡ length (map (fresh ds) ts) = a ∙ sym long in (
-          omega arith,
-          omega arith,
-          p ∙ ap₂ (λ (ys : List Prime) (j : ℕ). set ys j (record { term = term_of x; number = x; needs = held ds (term_of x); essential = false })) g.2 k
-              ∙ padded_push 256 no_prime (map (fresh ds) ts) (record { term = term_of x; number = x; needs = held ds (term_of x); essential = false }) (omega arith)
-              ∙ ap (λ (q : Prime). padded 256 no_prime (map (fresh ds) ts ++ q ∷ [])) r
-              ∙ ap (padded 256 no_prime) (sym (map-append (fresh ds) ts (term_of x ∷ [])) ∙ ap (map (fresh ds)) (sym u)),
-        )
+        let new : Prime = record { term = term_of x; number = x; needs = held ds (term_of x); essential = false } in
+        let r : new ≡ fresh ds (term_of x) =
+        ap (λ (k : ℕ). record { term = term_of x; number = k; needs = held ds (term_of x); essential = false }) (sym (number_term_of x small)) in
+        p ∙ pushed_fits 256 (entries l) new z ∙ ap₂ (λ (rs : List Prime) (q : Prime). rs ++ q ∷ []) g r
+        ∙ sym (map-append (fresh ds) ts (term_of x ∷ [])) ∙ ap (map (fresh ds)) (sym (up_push e))
 
     up_le : (y : ℕ) → y ≤ 3 ^ tb.inputs → length (up_to tb y) ≤ length (primes tb)
     unfolding primes
@@ -94,34 +112,30 @@ module _ (tb : Table) (n x : ℕ) (few : n ≤ 8) (same : n ≡ tb.inputs) where
         let t : filter p (take y xs) ≡ up_to tb y = ap (filter p) (take-map-range_with_len term_of 0 (3 ^ tb.inputs) y k) in
         omega (arith, ap length e, length-append (filter p (take y xs)) (filter p (drop y xs)), ap length t)
 
-    pub gathered_full : (ds : List Need) (l : PrimeList) → trial n (allowed tb) x ≡ true → l.count ≡ 256 → Gathered tb ds x l → 256 < length (primes tb)
+    pub gathered_full : (ds : List Need) (l : FixedList Prime 256) → trial n (allowed tb) x ≡ true → 256 ≤ length (entries l) → Gathered tb ds x l → 256 < length (primes tb)
     gathered_full ds l e z g =
-        let s = subst (λ (j : ℕ). x < 3 ^ j) same h in
+        let s = subst (λ (j : ℕ). x < 3 ^ j) t.same h in
         let b = up_le (x + 1) (omega arith) in
         let v = ap length (up_push e) in
         let w = length-append (up_to tb x) (term_of x ∷ []) in
-        let a = g.0 in
+        let a = ap length g ∙ length-map (up_to tb x) (fresh ds) in
         omega arith
 
-  pub gathered_all : (ds : List Need) (l : PrimeList) → x ≡ 3 ^ n → Gathered tb ds x l
-      → (l.primes ≡ padded 256 no_prime (map (fresh ds) (primes tb))) × (l.count ≡ length (primes tb)) × (l.count ≤ 256)
+  pub gathered_all : (x : ℕ) (ds : List Need) (l : FixedList Prime 256) → x ≡ 3 ^ n → Gathered tb ds x l → entries l ≡ map (fresh ds) (primes tb)
   unfolding primes
-  gathered_all ds l e g =
-      let u : up_to tb x ≡ primes tb = ap (up_to tb) (e ∙ ap (λ (j : ℕ). 3 ^ j) same) in
-      (g.2 ∙ ap (λ (ts : List Term). padded 256 no_prime (map (fresh ds) ts)) u, g.0 ∙ ap length u, (let a = g.0 in let b = g.1 in omega arith))
+  gathered_all x ds l e g = g ∙ ap (λ (k : ℕ). map (fresh ds) (up_to tb k)) (e ∙ ap (λ (j : ℕ). 3 ^ j) t.same)
 
 -- the terms in a list that was found
 map_terms : (ds : List Need) (ps : List Term) → map (λ p. p.term) (map (fresh ds) ps) ≡ ps
 map_terms ds [] = refl
 map_terms ds (t ∷ ps) = ap (λ (ts : List Term). t ∷ ts) (map_terms ds ps)
 
-pub terms_found : (ds : List Need) (ps : List Term) (l : PrimeList) → l.primes ≡ padded 256 no_prime (map (fresh ds) ps) → l.count ≡ length ps → terms_in l ≡ ps
-terms_found ds ps l e c =
-    ap (map (λ p. p.term)) (ap₂ take (c ∙ sym (length-map ps (fresh ds))) e ∙ take_padded 256 no_prime (map (fresh ds) ps)) ∙ map_terms ds ps
+pub terms_found : (ds : List Need) (ps : List Term) (l : FixedList Prime 256) → entries l ≡ map (fresh ds) ps → terms_in l ≡ ps
+terms_found ds ps l e = ap (map (λ p. p.term)) e ∙ map_terms ds ps
 
--- when the primes are refused
-pub too_many : (tb : Table) → 256 < length (primes tb) → primes_break tb ≡ Some TooManyPrimes
-too_many tb h = ap (λ (b : Bool). cond b (Some TooManyPrimes) None) (lt-ltb 256 (length (primes tb)) h)
+-- there are few enough of them
+pub primes_fit : (ds : List Need) (ps : List Term) (l : FixedList Prime 256) → entries l ≡ map (fresh ds) ps → length ps ≤ 256
+primes_fit ds ps l e = omega (arith, entries_fit l, ap length e ∙ length-map ps (fresh ds))
 
 pub few_enough : (tb : Table) → length (primes tb) ≤ 256 → primes_break tb ≡ None
 few_enough tb h = ap (λ (b : Bool). cond b (Some TooManyPrimes) None) (le-ltb 256 (length (primes tb)) h)

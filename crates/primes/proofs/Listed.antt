@@ -16,7 +16,7 @@ use Rattle.primes.specs.Primes.{every, allowed, is_prime, primes, terms_over}
 use Rattle.primes.specs.PrimeLaws.{PrimesListed, PrimesRising}
 use Rattle.primes.proofs.Cube.{contains, imp, num, Sparing, Within, Alone, is_free, stands, trial}
 use Rattle.primes.proofs.CubeLaws.{implicant_from_imp, imp_from_implicant, length_cube_of, num_lt}
-use Rattle.primes.proofs.CubeBytes.{cube, digit, mask_cube, levels_cube, contains_cube}
+use Rattle.primes.proofs.CubeBytes.{read_lt, level_lt, cube, digit, mask_cube, levels_cube, contains_cube}
 use Rattle.primes.proofs.CubeTerms.{every_at, every_from, length_cube, cube_of_lem, prime_trial, term_of_number, number_term_of, number_cube, term_over, pow3_le}
 use Rattle.primes.proofs.Insides.{alone_from_passes, passes_from_alone}
 
@@ -59,11 +59,6 @@ digit_of free = refl
 digit_of low = refl
 digit_of high = refl
 
-bits_lt : (d : Digit) → (read_bit d < 2) × (level_bit d < 2)
-bits_lt free = (omega arith, omega arith)
-bits_lt low = (omega arith, omega arith)
-bits_lt high = (omega arith, omega arith)
-
 low_bit : (d a : ℕ) → d < 2 → (d + 2 * a) % 2 ≡ d
 low_bit d a h = omega arith
 
@@ -73,15 +68,15 @@ low_half d a h = omega arith
 cube_in : (ds : List Digit) → cube (length ds) (mask_in ds) (levels_in ds) ≡ ds
 cube_in [] = refl
 cube_in (d ∷ ds) =
-    let r = (bits_lt d).0 in
-    let w = (bits_lt d).1 in
+    let r = read_lt d in
+    let w = level_lt d in
     ap₂ (λ (x : Digit) (xs : List Digit). x ∷ xs)
     (ap₂ digit (low_bit (read_bit d) (mask_in ds) r) (low_bit (level_bit d) (levels_in ds) w) ∙ digit_of d)
     (ap₂ (cube (length ds)) (low_half (read_bit d) (mask_in ds) r) (low_half (level_bit d) (levels_in ds) w) ∙ cube_in ds)
 
 mask_in_lt : (ds : List Digit) → mask_in ds < 2 ^ length ds
 mask_in_lt [] = omega arith
-mask_in_lt (d ∷ ds) = omega (arith, mask_in_lt ds, (bits_lt d).0, pow-suc 2 (length ds))
+mask_in_lt (d ∷ ds) = omega (arith, mask_in_lt ds, read_lt d, pow-suc 2 (length ds))
 
 -- the term of a list of at most eight digits
 pub term_in : (n : ℕ) (ds : List Digit) → n ≤ 8 → length ds ≡ n → (t : Term) × (t.mask < 2 ^ n) × (cube n t.mask t.levels ≡ ds)

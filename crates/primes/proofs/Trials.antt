@@ -53,9 +53,6 @@ every_more f i e h = ap (every f) (add-one i) ∙ and_from (f i) (every f i) h e
 abbrev pub Right : ℕ → List Bool → (ℕ → Bool) → Type 0
 Right n ys f = (y : ℕ) → y < 3 ^ n → get_or ys y false ≡ imp (cube_of n y) f
 
-pub place_at : (x i d p : ℕ) → d ≡ x / 3 ^ i % 3 → p ≡ 3 ^ i → d * p ≤ x
-place_at x i d p e q = let a : d * p ≡ x / 3 ^ i % 3 * 3 ^ i = ap₂ ◌*◌ e q in omega (arith, place_le x (3 ^ i))
-
 pub stood : (n i x d p : ℕ) (ys : List Bool) (f : ℕ → Bool) → i < n → x < 3 ^ n → d ≡ x / 3 ^ i % 3 → p ≡ 3 ^ i → (d ≡ 0 → ⊥) → Right n ys f
     → stands f (cube_of n x) i ≡ not (get_or ys (x - d * p) false)
 stood n i x d p ys f h k e q z right =

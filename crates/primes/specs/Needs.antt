@@ -1,13 +1,11 @@
 -- What a cover must hold: in plain work the ON rows, in hazard-free work also every two neighbouring ON rows.
-use Rattle.std.specs.Prelude.{◌≡◌, ℕ, ◌+◌, ◌^◌, Bool, ◌&&◌, List, [], ◌∷◌, ◌++◌, map, length, take, filter, nat_eq}
-use Rattle.std.specs.List.{range_with_len}
+use Rattle.std.specs.Prelude.{ℕ, ◌+◌, ◌^◌, Bool, ◌&&◌, List, ◌++◌, map, take, filter, nat_eq}
+use Rattle.std.specs.List.{flat_map, range_with_len}
 use Rattle.terms.specs.declared.term.Term.{Term}
-use Rattle.terms.specs.Lists.{padded}
 use Rattle.terms.specs.Terms.{bit, holds}
 use Rattle.terms.specs.Tables.{Table}
 use Rattle.sources.specs.Sources.{on_at}
 use Rattle.primes.specs.declared.need.Need.{Need}
-use Rattle.primes.specs.declared.need.NeedList.{NeedList}
 use Rattle.primes.specs.declared.need.Work.{Work}
 use Rattle.primes.specs.declared.need.Work.TheVariants.{Plain, HazardFree}
 
@@ -15,14 +13,13 @@ use Rattle.primes.specs.declared.need.Work.TheVariants.{Plain, HazardFree}
 abbrev pub row_need : ℕ → Need
 row_need r = record { low = r; high = r }
 
+-- the first k rows by themselves, rising
+abbrev pub row_needs : ℕ → List Need
+row_needs k = map row_need (range_with_len 0 k)
+
 -- two rows that differ in input i, which the lower row r has at 0
 abbrev pub pair_need : ℕ → ℕ → Need
 pair_need r i = record { low = r; high = r + 2 ^ i }
-
--- one list after the other
-abbrev pub joined : List (List Need) → List Need
-joined [] = []
-joined (xs ∷ xss) = xs ++ joined xss
 
 -- the pairs with lower row r, by the input, from input i on; k inputs are left
 abbrev pub pairs_at : ℕ → ℕ → ℕ → List Need
@@ -30,12 +27,12 @@ pairs_at r i k = map (pair_need r) (filter (λ j. nat_eq (bit r j) 0) (range_wit
 
 -- the pairs of a function of n inputs, by the lower row and then by the input, from row r on; k rows are left
 abbrev pub pairs : ℕ → ℕ → ℕ → List Need
-pairs n r k = joined (map (λ q. pairs_at q 0 n) (range_with_len r k))
+pairs n r k = flat_map (λ q. pairs_at q 0 n) (range_with_len r k)
 
 -- all that could be needed of a function of n inputs: the rows, rising, and in hazard-free work then the pairs
 abbrev pub candidates : ℕ → Work → List Need
-candidates n Plain = map row_need (range_with_len 0 (2 ^ n))
-candidates n HazardFree = map row_need (range_with_len 0 (2 ^ n)) ++ pairs n 0 (2 ^ n)
+candidates n Plain = row_needs (2 ^ n)
+candidates n HazardFree = row_needs (2 ^ n) ++ pairs n 0 (2 ^ n)
 
 -- both rows of a need are ON
 abbrev pub is_needed : Table → Need → Bool
@@ -49,10 +46,6 @@ needs tb work = filter (is_needed tb) (candidates tb.inputs work)
 abbrev pub meets : Term → Need → Bool
 meets t d = holds t d.low && holds t d.high
 
--- the needs in a list, and that the rest of its table is blank
-abbrev pub listed : NeedList → List Need
-listed l = take l.count l.needs
-
-pub record Tidy (l : NeedList) : Type 0 where
-  pub table : l.needs ≡ padded 1280 (row_need 0) (listed l)
-  pub count : l.count ≡ length (listed l)
+-- a list of needs with some more, those of the candidates that are needed, as far as 1,280 go in
+abbrev pub added : Table → List Need → List Need → List Need
+added tb old more = take 1280 (old ++ filter (is_needed tb) more)

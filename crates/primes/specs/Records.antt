@@ -1,5 +1,6 @@
 -- The records of the prime list: what is noted of each prime.
-use Rattle.std.specs.Prelude.{ℕ, Bool, false, cond, ◌&&◌, ◌||◌, List, [], ◌∷◌, map, length, take, Some, None, filter, Option, ◌==◌, nat_lt, slice_index_or}
+use Rattle.std.specs.Prelude.{ℕ, Bool, false, cond, if◌then◌else◌, ◌&&◌, List, map, length, Some, None, filter, position, Option, ◌==◌, nat_lt}
+use Rattle.std.specs.List.{list_any}
 use Rattle.terms.specs.declared.refusal.Refusal.{Refusal}
 use Rattle.terms.specs.declared.refusal.Refusal.TheVariants.{TooManyPrimes}
 use Rattle.terms.specs.declared.term.Term.{Term}
@@ -8,7 +9,8 @@ use Rattle.terms.specs.Tables.{Table}
 use Rattle.primes.specs.declared.need.Need.{Need}
 use Rattle.primes.specs.declared.need.Work.{Work}
 use Rattle.primes.specs.declared.prime.Prime.{Prime}
-use Rattle.primes.specs.declared.prime.PrimeList.{PrimeList}
+use Rattle.fixed.specs.declared.list.FixedList.{FixedList}
+use Rattle.fixed.specs.Lists.{entries}
 use Rattle.primes.specs.Cubes.{term_of}
 use Rattle.primes.specs.Primes.{primes}
 use Rattle.primes.specs.Needs.{needs, meets}
@@ -17,14 +19,17 @@ use Rattle.primes.specs.Needs.{needs, meets}
 abbrev pub held : List Need → Term → ℕ
 held ds t = length (filter (meets t) ds)
 
+-- the place of the element that passes a test, where there is just one
+abbrev pub sole_place : {A : Type 0} → (A → Bool) → List A → Option ℕ
+sole_place p xs = if length (filter p xs) == 1 then position p xs else None
+
 -- how many of the terms hold a need
 abbrev pub holders : List Term → Need → ℕ
 holders ps d = length (filter (λ p. meets p d) ps)
 
 -- t is essential among ps: some need is held by t and by no other of them
 abbrev pub is_essential : List Term → List Need → Term → Bool
-is_essential ps [] t = false
-is_essential ps (d ∷ ds) t = (meets t d && holders ps d == 1) || is_essential ps ds t
+is_essential ps ds t = list_any (λ d. meets t d && holders ps d == 1) ds
 
 -- a prime with its needs counted, not yet known to be essential
 abbrev pub fresh : List Need → Term → Prime
@@ -46,17 +51,10 @@ no_prime = record { term = term_of 0; number = 0; needs = 0; essential = false }
 abbrev pub primes_break : Table → Option Refusal
 primes_break tb = cond (nat_lt 256 (length (primes tb))) (Some TooManyPrimes) None
 
--- the records in a list, and their terms
-abbrev pub records_in : PrimeList → List Prime
-records_in l = take l.count l.primes
-
-abbrev pub terms_in : PrimeList → List Term
-terms_in l = map (λ p. p.term) (records_in l)
+-- the terms of a list's primes
+abbrev pub terms_in : FixedList Prime 256 → List Term
+terms_in l = map (λ p. p.term) (entries l)
 
 -- the record's term holds a need
 abbrev pub record_meets : Need → Prime → Bool
 record_meets d p = meets p.term d
-
--- the record at a place, where there is one
-abbrev pub record_at : PrimeList → ℕ → Option Prime
-record_at l k = cond (nat_lt k l.count && nat_lt k 256) (Some (slice_index_or l.primes k no_prime)) None

@@ -1,41 +1,45 @@
 // Finding the essential primes: those that alone hold some need.
-ghost use Rattle.std.specs.Prelude.{◌≡◌, ◌<◌, ◌≤◌, true, map, length, filter, MatchOption, ◌≢◌, slice_index_or};
-ghost use Rattle.terms.specs.Lists.{padded};
-ghost use Rattle.primes.specs.Needs.{listed};
-ghost use Rattle.primes.specs.Records.{fresh, record_of, no_prime, records_in, terms_in, record_meets};
+ghost use Rattle.std.specs.Prelude.{◌≡◌, map, position};
+ghost use Rattle.fixed.specs.Lists.{entries};
+ghost use Rattle.primes.specs.Records.{fresh, record_of, terms_in, record_meets, sole_place};
 
 use crate::need::{Need, NeedList};
-use crate::prime::PrimeList;
+use crate::prime::{Prime, PrimeList};
 use crate::records::holds_need;
 
-// Notes in each record whether the prime is essential for the needs.
+// Notes in each record whether the prime is essential for the needs. A loop, since each need may change a record.
 pub(crate) fn mark_essentials(list: &mut PrimeList, needs: &NeedList)
-    requires few { list.old.count ≤ 256 }
-    requires count { list.old.count ≡ length (terms_in list.old) }
-    requires table { list.old.primes ≡ padded 256 no_prime (map (fresh (listed needs.now)) (terms_in list.old)) }
-    requires needs { needs.now.count ≤ 1280 }
-    ensures count { list.new.count ≡ list.old.count }
-    ensures table { list.new.primes ≡ padded 256 no_prime (map (record_of (terms_in list.old) (listed needs.now)) (terms_in list.old)) }
+    requires { entries list.old ≡ map (fresh (entries needs.now)) (terms_in list.old) }
+    ensures { entries list.new ≡ map (record_of (terms_in list.old) (entries needs.now)) (terms_in list.old) }
 {
-    for k in 0..needs.count {
-        if let Some(at) = sole_holder(list, needs.needs[k]) {
-            list.primes[at].essential = true;
+    for need in needs.as_slice() {
+        if let Some(place) = sole_holder(list.as_slice(), *need) {
+            let prime = list.as_slice()[place];
+            list.set(
+                place,
+                Prime {
+                    essential: true,
+                    ..prime
+                },
+            );
         }
     }
 }
 
 // The place of the only prime that holds a need, where there is just one.
-fn sole_holder(list: &PrimeList, need: Need) -> Option<usize>
-    requires { list.now.count ≤ 256 }
-    ensures { MatchOption result (length (filter (record_meets need) (records_in list.now)) ≢ 1) (λ at. (at < list.now.count) × (record_meets need (slice_index_or list.now.primes at no_prime) ≡ true) × (length (filter (record_meets need) (records_in list.now)) ≡ 1)) }
+fn sole_holder(primes: &[Prime], need: Need) -> Option<usize>
+    ensures { result ≡ sole_place (record_meets need) primes.now }
 {
-    let mut holders = 0usize;
-    let mut last = 0;
-    for i in 0..list.count {
-        if holds_need(list.primes[i].term, need) {
-            holders += 1;
-            last = i;
-        }
+    let place = first_holder(primes, need)?;
+    match first_holder(&primes[place + 1..], need) {
+        Some(_) => None,
+        None => Some(place),
     }
-    if holders == 1 { Some(last) } else { None }
+}
+
+// The place of the first prime that holds a need.
+fn first_holder(primes: &[Prime], need: Need) -> Option<usize>
+    ensures { result ≡ position (record_meets need) primes.now }
+{
+    primes.iter().position(|prime| holds_need(prime.term, need))
 }

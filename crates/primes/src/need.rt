@@ -1,4 +1,5 @@
 // What a cover must hold.
+use fixed::FixedList;
 
 // Plain work asks for the ON rows; hazard-free work also for every two neighbouring ON rows together.
 #[derive(Clone, Copy, PartialEq, Eq, Debug)]
@@ -8,15 +9,11 @@ pub enum Work {
 }
 
 // A need: two rows that one term must hold together; a row alone is the same row twice.
-#[derive(Clone, Copy, Debug)]
+#[derive(Clone, Copy, Debug, Default)]
 pub struct Need {
     pub low: usize,
     pub high: usize,
 }
 
-// The needs of some work, in order: the first `count` of the table.
-#[derive(Clone, Copy)]
-pub struct NeedList {
-    pub needs: [Need; 1280],
-    pub count: usize,
-}
+// Needs, at most 1,280: as many as 8 inputs can have, 256 rows and 1,024 pairs.
+pub type NeedList = FixedList<Need, 1280>;

@@ -1,49 +1,30 @@
 // Listing the needs of a source.
-ghost use Rattle.std.specs.Prelude.{◌≡◌, ◌+◌, ◌^◌, ◌<◌, ◌≤◌, [], ◌∷◌, ◌++◌, map, length, filter};
-ghost use Rattle.std.specs.List.{range_with_len};
-ghost use Rattle.terms.specs.Lists.{padded};
-ghost use Rattle.primes.specs.Needs.{needs, row_need, is_needed, pair_need, pairs_at, pairs, listed, Tidy};
+ghost use Rattle.std.specs.Prelude.{◌≡◌, ◌^◌, ◌<◌, [], ◌∷◌};
+ghost use Rattle.fixed.specs.Lists.{entries};
+ghost use Rattle.primes.specs.Needs.{needs, row_needs, is_needed, pair_need, pairs_at, pairs, added};
 
 use crate::need::{Need, NeedList, Work};
 use sources::Source;
 
-// The needs of a source in some kind of work.
+// The needs of a source in some kind of work. There is room for all of them: 8 inputs have 256 rows and 1,024 pairs.
 pub fn list_needs<S: Source>(source: &S, work: Work) -> NeedList
-    ensures table { result.needs ≡ padded 1280 (row_need 0) (needs (S.Source.meaning source.now) work) }
-    ensures count { result.count ≡ length (needs (S.Source.meaning source.now) work) }
+    ensures { entries result ≡ needs (S.Source.meaning source.now) work }
 {
-    let inputs = source.inputs();
-    let mut list = no_needs();
-    add_rows(source, inputs, &mut list);
+    let mut list = NeedList::new();
+    add_rows(source, &mut list);
     match work {
-        Work::Plain => list,
-        Work::HazardFree => {
-            add_pairs(source, inputs, &mut list);
-            list
-        }
+        Work::Plain => {}
+        Work::HazardFree => add_pairs(source, &mut list),
     }
+    list
 }
 
-fn no_needs() -> NeedList
-    ensures tidy { Tidy result }
-    ensures listed { listed result ≡ [] }
+// Adds the ON rows, rising. A loop, here and below, since each step changes the list; a struct of the source and the list
+// would lend both at every call, and is no plainer.
+fn add_rows<S: Source>(source: &S, list: &mut NeedList)
+    ensures { entries list.new ≡ added (S.Source.meaning source.now) (entries list.old) (row_needs (2 ^ (S.Source.meaning source.now).inputs)) }
 {
-    let blank = Need { low: 0, high: 0 };
-    NeedList {
-        needs: [blank; 1280],
-        count: 0,
-    }
-}
-
-// Adds the ON rows, rising.
-fn add_rows<S: Source>(source: &S, inputs: usize, list: &mut NeedList)
-    requires few { inputs ≤ 8 }
-    requires tidy { Tidy list.old }
-    requires room { list.old.count + length (filter (is_needed (S.Source.meaning source.now)) (map row_need (range_with_len 0 (2 ^ inputs)))) ≤ 1280 }
-    ensures tidy { Tidy list.new }
-    ensures listed { listed list.new ≡ listed list.old ++ filter (is_needed (S.Source.meaning source.now)) (map row_need (range_with_len 0 (2 ^ inputs))) }
-{
-    for row in 0..1 << inputs {
+    for row in 0..1 << source.inputs() {
         add(
             source,
             Need {
@@ -56,28 +37,20 @@ fn add_rows<S: Source>(source: &S, inputs: usize, list: &mut NeedList)
 }
 
 // Adds the pairs of neighbouring ON rows, by the lower row and then by the input in which they differ.
-fn add_pairs<S: Source>(source: &S, inputs: usize, list: &mut NeedList)
-    requires few { inputs ≤ 8 }
-    requires tidy { Tidy list.old }
-    requires room { list.old.count + length (filter (is_needed (S.Source.meaning source.now)) (pairs inputs 0 (2 ^ inputs))) ≤ 1280 }
-    ensures tidy { Tidy list.new }
-    ensures listed { listed list.new ≡ listed list.old ++ filter (is_needed (S.Source.meaning source.now)) (pairs inputs 0 (2 ^ inputs)) }
+fn add_pairs<S: Source>(source: &S, list: &mut NeedList)
+    ensures { entries list.new ≡ added (S.Source.meaning source.now) (entries list.old) (pairs (S.Source.meaning source.now).inputs 0 (2 ^ (S.Source.meaning source.now).inputs)) }
 {
-    for row in 0..1 << inputs {
-        add_pairs_at(source, inputs, row, list);
+    for row in 0..1 << source.inputs() {
+        add_pairs_at(source, row, list);
     }
 }
 
 // Adds the pairs with one lower row, by the input.
-fn add_pairs_at<S: Source>(source: &S, inputs: usize, row: usize, list: &mut NeedList)
-    requires few { inputs ≤ 8 }
-    requires row { row < 256 }
-    requires tidy { Tidy list.old }
-    requires room { list.old.count + length (filter (is_needed (S.Source.meaning source.now)) (pairs_at row 0 inputs)) ≤ 1280 }
-    ensures tidy { Tidy list.new }
-    ensures listed { listed list.new ≡ listed list.old ++ filter (is_needed (S.Source.meaning source.now)) (pairs_at row 0 inputs) }
+fn add_pairs_at<S: Source>(source: &S, row: usize, list: &mut NeedList)
+    requires { row < 256 }
+    ensures { entries list.new ≡ added (S.Source.meaning source.now) (entries list.old) (pairs_at row 0 (S.Source.meaning source.now).inputs) }
 {
-    for input in 0..inputs {
+    for input in 0..source.inputs() {
         if row >> input & 1 == 0 {
             add(source, pair(row, input), list);
         }
@@ -96,17 +69,12 @@ fn pair(row: usize, input: usize) -> Need
     }
 }
 
-// Adds a need to the list where both its rows are ON.
+// Adds a need to the list where both its rows are ON and there is room.
 fn add<S: Source>(source: &S, need: Need, list: &mut NeedList)
-    requires tidy { Tidy list.old }
-    requires room { list.old.count + length (filter (is_needed (S.Source.meaning source.now)) (need ∷ [])) ≤ 1280 }
-    ensures tidy { Tidy list.new }
-    ensures listed { listed list.new ≡ listed list.old ++ filter (is_needed (S.Source.meaning source.now)) (need ∷ []) }
+    ensures { entries list.new ≡ added (S.Source.meaning source.now) (entries list.old) (need ∷ []) }
 {
     if is_needed(source, need) {
-        let at = list.count;
-        list.needs[at] = need;
-        list.count = at + 1;
+        let _ = list.push(need);
     }
 }
 

@@ -1,4 +1,8 @@
 // The prime list: up to 256 records, the earliest term first.
+ghost use Rattle.std.specs.Prelude.{◌≡◌};
+
+use crate::digits::term_at;
+use fixed::FixedList;
 use terms::Term;
 
 // One prime: its term and number, how many needs it holds, and whether it alone among the primes holds some need.
@@ -10,9 +14,21 @@ pub struct Prime {
     pub essential: bool,
 }
 
-// The first `count` records of the table are the primes.
-#[derive(Clone, Copy)]
-pub struct PrimeList {
-    pub primes: [Prime; 256],
-    pub count: usize,
+impl Default for Prime {
+    ghost use Rattle.primes.specs.Records.{no_prime};
+
+    ghost is_default = { λ p. p ≡ no_prime };
+
+    // A record that stands for no prime.
+    fn default() -> Prime {
+        Prime {
+            term: term_at(0),
+            number: 0,
+            needs: 0,
+            essential: false,
+        }
+    }
 }
+
+// Primes, as records, at most 256.
+pub type PrimeList = FixedList<Prime, 256>;

@@ -27,5 +27,5 @@ fn run() -> Result<usize, Refusal> {
     for _ in 0..TIMES {
         primes(&truth, Work::HazardFree, &mut list)?;
     }
-    Ok(list.count)
+    Ok(list.len())
 }

@@ -4,5 +4,4 @@ pub mod Numbers
 pub mod Shapes
 pub mod Writing
 pub mod Members
-pub mod Padding
 pub mod Widening

@@ -1,5 +1,5 @@
 -- Words for lists: what is in one, and what order it has.
-use Rattle.std.specs.Prelude.{◌≡◌, ℕ, ◌-◌, ◌⊎◌, List, [], ◌∷◌, ◌++◌, length, replicate}
+use Rattle.std.specs.Prelude.{◌≡◌, ◌⊎◌, List, [], ◌∷◌}
 
 module _ {A : Type 0} where
   -- a is in the list
@@ -11,7 +11,3 @@ module _ {A : Type 0} where
   abbrev pub Ordered : (A → A → Type 0) → List A → Type 0
   Ordered R [] = Unit {0}
   Ordered R (x ∷ xs) = ((y : A) → In y xs → R x y) × Ordered R xs
-
-  -- a table of fixed size: the list, and then blanks
-  abbrev pub padded : ℕ → A → List A → List A
-  padded size blank xs = xs ++ replicate (size - length xs) blank

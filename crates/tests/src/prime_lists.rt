@@ -32,10 +32,12 @@ fn symmetric(inputs: usize, low: u32, high: u32) -> Result<TruthTable, Refusal> 
 fn counts(truth: &TruthTable, work: Work) -> Result<(usize, usize), Refusal> {
     let mut list = PrimeList::new();
     primes(truth, work, &mut list)?;
-    let essentials = (0..list.count)
-        .filter(|&place| is_essential(&list, place))
+    let essentials = list
+        .as_slice()
+        .iter()
+        .filter(|prime| prime.essential)
         .count();
-    Ok((list.count, essentials))
+    Ok((list.len(), essentials))
 }
 
 fn is_essential(list: &PrimeList, place: usize) -> bool {
@@ -77,7 +79,7 @@ fn essential_by_a_pair(rt: HostRuntime) -> Result<(), Fail> {
     let truth = table(3, &[0, 1, 5, 7], &[])?;
     let mut list = PrimeList::new();
     primes(&truth, Work::Plain, &mut list)?;
-    assert_eq!(rt; list.count, 3);
+    assert_eq!(rt; list.len(), 3);
     assert_eq!(rt; figures(&list, 0), (5, 2));
     assert!(rt; !is_essential(&list, 0));
     primes(&truth, Work::HazardFree, &mut list)?;
@@ -96,7 +98,7 @@ fn refused_list_keeps(rt: HostRuntime) -> Result<(), Fail> {
         primes(&symmetric(8, 3, 5)?, Work::Plain, &mut list),
         Err(Refusal::TooManyPrimes)
     );
-    assert_eq!(rt; list.count, 2);
+    assert_eq!(rt; list.len(), 2);
     assert_eq!(rt; figures(&list, 0), (2, 1));
     assert_eq!(rt; figures(&list, 1), (6, 0));
     Ok(())

@@ -112,7 +112,7 @@ fn print_primes<S: Source>(
     if let Err(refusal) = primes(source, work, &mut list) {
         return println!(rt; "    {refusal}");
     }
-    for prime in (0..list.count).filter_map(|place| list.get(place)) {
+    for prime in list.as_slice() {
         let term = prime.term.written(rt.alloc(), source.inputs())?;
         let needs = prime.needs;
         let essential = if prime.essential { ", essential" } else { "" };

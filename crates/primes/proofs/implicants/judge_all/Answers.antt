@@ -1,21 +1,25 @@
-use Rattle.std.proofs.Common.{ℕ, ◌-◌, ◌<◌, ◌≤◌, length, sym, ◌∙◌, subst, arith, length-set}
+use Rattle.std.proofs.Common.{ℕ, ◌^◌, sym, ap, ◌∙◌, arith}
+use Rattle.fixed.proofs.Members.{no_member}
 use Rattle.primes.proofs.CubeTerms.{pow3_le}
-use Rattle.primes.proofs.Judged.{settled_more}
+use Rattle.primes.proofs.Judged.{judged_in, judged_out}
 use Rattle.primes.proofs.implicants.judge_all.Goals as goal
 
-pub bounds-yes-x : goal.bounds-yes-x
-bounds-yes-x g c =
-    let few = (g.met.S.Source.proper c.args.source.now).few in
-    let p = pow3_le c.inputs-n.result (subst (λ (j : ℕ). j ≤ 8) (sym c.inputs-n.ensures) few) in
-    omega arith
+pub loop-x-init : goal.loop-x-init
+loop-x-init g c =
+    let top = c.power-x.ensures ∙ ap (λ (k : ℕ). 3 ^ k) c.inputs.ensures in
+    record {
+      later = λ y a b. absurd (omega arith);
+      below = λ y a. no_member 6561 c.none-found.result.on c.none-found.ensures y;
+    }
+
+pub loop-x-preserved-then-judge : goal.loop-x-preserved-then-judge
+loop-x-preserved-then-judge g c =
+    let top = c.power-x.ensures ∙ ap (λ (k : ℕ). 3 ^ k) c.inputs.ensures in
+    let p = pow3_le (g.S.Source.meaning c.args.source.now).inputs (g.met.S.Source.proper c.args.source.now).few in
+    judged_in (g.S.Source.meaning c.args.source.now) c.loop-x.x c.loop-x.found c.loop-x-test.true c.loop-x.invariant
+    c.insert.new.self (omega arith) (sym c.if-judge.ensures) c.insert.ensures
 
 pub loop-x-preserved : goal.loop-x-preserved
 loop-x-preserved g c =
-    let few = (g.met.S.Source.proper c.args.source.now).few in
-    let p = pow3_le c.inputs-n.result (subst (λ (j : ℕ). j ≤ 8) (sym c.inputs-n.ensures) few) in
-    let l = c.loop-x.invariant.0 in
-    let in-range : c.loop-x.x - 1 < length c.loop-x.yes = omega arith in (
-      length-set c.loop-x.yes (c.loop-x.x - 1) c.judge-it.result ∙ l,
-      settled_more (g.S.Source.meaning c.args.source.now) c.inputs-n.result (c.loop-x.x - 1) c.loop-x.yes c.judge-it.result in-range c.judge-it.ensures
-          (λ y a b. c.loop-x.invariant.1 y (omega arith) b),
-    )
+    judged_out (g.S.Source.meaning c.args.source.now) c.loop-x.x c.loop-x.found c.loop-x-test.true c.loop-x.invariant
+    (sym c.if-judge.ensures)

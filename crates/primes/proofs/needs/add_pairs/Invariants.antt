@@ -1,9 +1,7 @@
-use Rattle.std.proofs.Common.{◌≡◌, ◌-◌, ◌^◌, ◌++◌, filter}
-use Rattle.primes.specs.Needs.{pairs, is_needed, listed, Tidy}
+use Rattle.std.proofs.Common.{◌≡◌}
+use Rattle.fixed.specs.Lists.{entries}
+use Rattle.primes.specs.Needs.{pairs, added}
 use Rattle.primes.proofs.needs.add_pairs.Given as goal
 
 abbrev pub invariant-loop-row : goal.invariant-loop-row
-invariant-loop-row g l =
-    Tidy l.list
-    × (listed l.list ++ filter (is_needed (g.S.Source.meaning l.source)) (pairs l.inputs l.row (2 ^ l.inputs - l.row))
-    ≡ listed l.initial.list ++ filter (is_needed (g.S.Source.meaning l.source)) (pairs l.inputs 0 (2 ^ l.inputs)))
+invariant-loop-row g l = entries l.list ≡ added (g.S.Source.meaning l.source) (entries l.initial.list) (pairs (g.S.Source.meaning l.source).inputs 0 l.row)
