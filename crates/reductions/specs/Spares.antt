@@ -47,6 +47,13 @@ Enough g t b ns =
     (e : ℕ → Bool) → ((k : ℕ) → k < g.width → t k ≡ true → e k ≡ true) → ((k : ℕ) → k < g.width → b k ≡ true → e k ≡ false)
     → ((i : ℕ) → i < g.wanted → ns i ≡ true → Held g e i) → (i : ℕ) → i < g.wanted → Held g e i
 
+-- c is the one column that is left for the need i
+pub record OnlyLeft (g : Grid) (b : ℕ → Bool) (i c : ℕ) : Type 0 where
+  pub within : c < g.width
+  pub free : b c ≡ false
+  pub holds : g.held c i ≡ true
+  pub alone : (k : ℕ) → k < g.width → g.held k i ≡ true → (b k ≡ true) ⊎ (k ≡ c)
+
 -- each column that is left for another of the needs holds j
 pub record Implied (g : Grid) (b ns : ℕ → Bool) (j : ℕ) : Type 0 where
   pub by : ℕ

@@ -1,7 +1,8 @@
 // Which columns hold a need.
-ghost use Rattle.std.specs.Prelude.{◌≡◌, ℕ, ◌<◌, true, false, ◌⊎◌, IfSome};
+ghost use Rattle.std.specs.Prelude.{◌≡◌, IfSome};
 ghost use Rattle.fixed.specs.Sets.{member};
 ghost use Rattle.charts.specs.Sets.{is_held, HeldTells};
+ghost use Rattle.reductions.specs.Spares.{OnlyLeft};
 
 use charts::{Chart, ColumnSet};
 
@@ -17,15 +18,12 @@ pub fn held_by<C: Chart>(chart: &C, set: &ColumnSet, need: usize) -> bool
 
 // The one column that holds the need and is not banned; none where there is no such column, or more than one.
 pub(crate) fn only_column<C: Chart>(chart: &C, banned: &ColumnSet, need: usize) -> Option<usize>
-    ensures { IfSome result (λ c. (c < (C.Chart.grid chart.now).width) × (member banned.now c ≡ false) × ((C.Chart.grid chart.now).held c need ≡ true) × ((k : ℕ) → k < (C.Chart.grid chart.now).width → (C.Chart.grid chart.now).held k need ≡ true → (member banned.now k ≡ true) ⊎ (k ≡ c))) }
+    ensures { IfSome result (OnlyLeft (C.Chart.grid chart.now) (member banned.now) need) }
 {
     // A loop: what a chain gives at its second `next`, the check does not read off.
     let mut only = None;
     for c in 0..chart.columns() {
-        if banned.contains(c) {
-            continue;
-        }
-        if !chart.holds(c, need) {
+        if banned.contains(c) || !chart.holds(c, need) {
             continue;
         }
         if only.is_some() {

@@ -22,7 +22,7 @@ loop-need-preserved g c =
       | then-not-held_by+in-Some w ↦
           let k = w.in-Some.column in
           let Only : Node → Type 0 = λ n. (c : ℕ) → c < m.width → m.held c i ≡ true → (banned n c ≡ true) ⊎ (c ≡ k) in
-          let only : Only s.node = subst Only w.node-in-loop-need.ensures w.in-Some.ensures.3 in
+          let only : Only s.node = subst Only w.node-in-loop-need.ensures w.in-Some.ensures.alone in
           subst Stays (sym w.trail-is)
           (narrowed_more p c.args.trail.now s w.fix.new.self c.loop-need.invariant
           (narrowed_fix p s w.fix.new.self k true w.fix.ensures.root w.fix.ensures.steps
