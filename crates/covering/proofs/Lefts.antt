@@ -1,7 +1,7 @@
 -- The columns that are left for a need: what a chain over them says of each.
-use Rattle.std.proofs.Common.{◌≡◌, ℕ, ◌<◌, Bool, true, false, not, ◌&&◌, cond, List, [], ◌∷◌, filter, length, Some, sym, refl, ap, ◌∙◌, subst, inl, inr, ⊎_elim, arith}
+use Rattle.std.proofs.Common.{◌≡◌, ℕ, ◌<◌, ◌≤◌, Bool, true, false, not, nat_lt, ◌&&◌, ◌||◌, cond, List, [], ◌∷◌, filter, length, Some, sym, refl, ap, ◌∙◌, subst, inl, inr, ⊎_elim, arith}
 use Rattle.std.specs.List.{list_all, fold, reduce, range_with_len}
-use Rattle.std.proofs.lemmas.Bool.{both_ways, not-true, not-false, false≢true}
+use Rattle.std.proofs.lemmas.Bool.{both_ways, cases_lt, lt-ltb, not-true, not-false, false≢true}
 use Rattle.terms.specs.Lists.{In}
 use Rattle.terms.proofs.Members.{in_kept}
 use Rattle.orders.specs.Orders.{Laws}
@@ -126,3 +126,23 @@ left_free g t b i c unheld l h = (go (t c) refl, not-true (b c) (and_left (not (
     go : (y : Bool) → t c ≡ y → t c ≡ false
     go false e = e
     go true e = absurd (both_ways _ (unheld_from g t i unheld c l e) (and_rest (not (b c)) (g.held c i) h))
+
+-- what is used after a need: what was, and the columns that are left for it
+module _ (g : Grid) (b u v : ℕ → Bool) (i : ℕ) (few : g.width ≤ 256) (h : (c : ℕ) → c < 256 → v c ≡ (u c || (nat_lt c g.width && is_left g b i c))) where
+  pub used_marks : (c : ℕ) → c < g.width → g.held c i ≡ true → b c ≡ false → v c ≡ true
+  used_marks c l y n =
+      h c (omega arith)
+      ∙ ap (λ (x : Bool). u c || (nat_lt c g.width && x)) (ap (λ (x : Bool). not x && g.held c i) n ∙ y)
+      ∙ ap (λ (x : Bool). u c || (x && true)) (lt-ltb c g.width l)
+      ∙ go (u c)
+    where
+      go : (x : Bool) → (x || true) ≡ true
+      go true = refl
+      go false = refl
+
+  pub used_keeps : ((c : ℕ) → 256 ≤ c → u c ≡ false) → (c : ℕ) → u c ≡ true → v c ≡ true
+  used_keeps past c e =
+      ⊎_elim
+      (λ (low : c < 256). h c low ∙ ap (λ (x : Bool). x || (nat_lt c g.width && is_left g b i c)) e)
+      (λ (high : 256 ≤ c). absurd (both_ways _ (past c high) e))
+      (cases_lt c 256)

@@ -1,5 +1,5 @@
 // What a set costs at least: needs that share no column want a column each.
-ghost use Rattle.std.specs.Prelude.{◌≡◌, ℕ, ◌<◌, ◌≤◌, true, false, not, ◌&&◌, filter, if◌then◌else◌, IfSome};
+ghost use Rattle.std.specs.Prelude.{◌≡◌, ℕ, ◌<◌, ◌≤◌, true, ◌&&◌, ◌||◌, nat_lt, filter, if◌then◌else◌, IfSome};
 ghost use Rattle.std.specs.List.{list_all, reduce};
 ghost use Rattle.fixed.specs.Sets.{member};
 ghost use Rattle.charts.specs.Best.{problem, columns};
@@ -50,17 +50,18 @@ fn cheapest<O: CostOrder, C: Chart>(
         .filter(|column| is_left(chart, left_out, need, *column))
         .reduce(|best, column| cheaper(order, chart, best, column))
 }
-// Marks the columns that are left for the need as used.
-fn use_columns<C: Chart>(chart: &C, left_out: &ColumnSet, need: usize, used: &mut ColumnSet)
-    ensures marks { (c : ℕ) → c < (C.Chart.grid chart.now).width → (C.Chart.grid chart.now).held c need ≡ true → member left_out.now c ≡ false → member used.new c ≡ true }
-    ensures keeps { (c : ℕ) → member used.old c ≡ true → member used.new c ≡ true }
+// The used columns, and those that are left for the need.
+fn with_left<C: Chart>(chart: &C, left_out: &ColumnSet, need: usize, used: &ColumnSet) -> ColumnSet
+    ensures { (c : ℕ) → c < 256 → member result c ≡ (member used.now c || nat_lt c (C.Chart.grid chart.now).width && is_left (C.Chart.grid chart.now) (member left_out.now) need c) }
 {
-    // A loop: each turn changes the set.
-    for column in 0..chart.columns() {
-        if is_left(chart, left_out, need, column) {
-            used.insert(column);
-        }
-    }
+    ColumnSet::from_fn(
+        |column: usize| -> bool
+            ensures { result ≡ (member used.entry.now column || nat_lt column (C.Chart.grid chart.entry.now).width && is_left (C.Chart.grid chart.entry.now) (member left_out.entry.now) need column) }
+        {
+            used.contains(column)
+                || column < chart.columns() && is_left(chart, left_out, need, column)
+        },
+    )
 }
 
 impl<O: CostOrder, C: Chart> Quest<'_, O, C> {
@@ -85,7 +86,7 @@ impl<O: CostOrder, C: Chart> Quest<'_, O, C> {
             let price = self.chart.price(self.order, column);
             low.total = self.order.join(price, low.total);
             low.size += 1;
-            use_columns(self.chart, &node.banned, need, &mut used);
+            used = with_left(self.chart, &node.banned, need, &used);
         }
         !is_fine(self.order, &low, &self.bound, self.strict)
     }

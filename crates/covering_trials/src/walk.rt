@@ -63,27 +63,32 @@ struct Walked<T> {
     ties: bool,
 }
 
-// Walks through every set and keeps the first best one; nothing where none covers.
-fn walk_all<O: CostOrder>(order: &O, sample: &Sample) -> Option<Walked<O::Total>> {
-    let mut walked: Option<Walked<O::Total>> = None;
-    for number in (0..1024).rev() {
-        let set = columns_of(number);
-        if !covers(sample, &set) {
-            continue;
-        }
-        let value = value_of(order, sample, &set);
-        walked = match walked {
-            Some(Walked { best, ties }) if !is_fine(order, &value, &best, true) => Some(Walked {
-                best,
-                ties: ties || is_fine(order, &value, &best, false),
-            }),
-            _ => Some(Walked {
-                best: value,
-                ties: false,
-            }),
-        };
+// What is found after one more set: the first of the best stays.
+fn found_with<O: CostOrder>(
+    order: &O,
+    walked: Option<Walked<O::Total>>,
+    value: Valued<O::Total>,
+) -> Option<Walked<O::Total>> {
+    match walked {
+        Some(Walked { best, ties }) if !is_fine(order, &value, &best, true) => Some(Walked {
+            best,
+            ties: ties || is_fine(order, &value, &best, false),
+        }),
+        _ => Some(Walked {
+            best: value,
+            ties: false,
+        }),
     }
-    walked
+}
+
+// Walks through every set, the earliest first, and keeps the first best one; nothing where none covers.
+fn walk_all<O: CostOrder>(order: &O, sample: &Sample) -> Option<Walked<O::Total>> {
+    (0..1024)
+        .rev()
+        .map(columns_of)
+        .filter(|set| covers(sample, set))
+        .map(|set| value_of(order, sample, &set))
+        .fold(None, |walked, value| found_with(order, walked, value))
 }
 
 // Compares the walk with what the search gives.

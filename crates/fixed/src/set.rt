@@ -56,8 +56,8 @@ impl<const N: usize> FixedSet<N> {
         ensures { (k : ℕ) → k < N → F.post test k (member result k) }
     {
         let mut on = [false; N];
-        for number in 0..N {
-            on[number] = test(number);
+        for (number, has) in on.iter_mut().enumerate() {
+            *has = test(number);
         }
         FixedSet { on }
     }

@@ -5,7 +5,8 @@ use Rattle.charts.specs.Best.{problem}
 use Rattle.fixed.specs.Sets.{member}
 use Rattle.charts.proofs.Values.{down_short}
 use Rattle.reductions.specs.Trails.{taken, banned}
-use Rattle.covering.proofs.Lefts.{apart_from, cheapest_from}
+use Rattle.fixed.proofs.Members.{none_past}
+use Rattle.covering.proofs.Lefts.{apart_from, cheapest_from, used_marks, used_keeps}
 use Rattle.covering.proofs.Flooring.{floor_start, floor_more, floor_ends}
 use Rattle.covering.proofs.quest.Quest.is_hopeless.Goals as goal
 
@@ -28,10 +29,11 @@ loop-need-preserved g c =
     let m = g.C.Chart.grid c.args.self.now.chart.now in
     let n = c.args.node.now in
     let low = c.loop-need.low in
+    let few = (g.met.C.Chart.small c.args.self.now.chart.now).few in
     let li : c.loop-need.need < m.wanted = omega (arith, c.needs-need-end.ensures) in (
       floor_more (problem (o.meaning me) m) (o.laws me) c.args.self.now.strict (member c.args.self.now.bound.set) (taken n) (banned n)
-          (member c.loop-need.used) (member c.use_columns.new.used) (o.exact me low.total) (o.exact me c.price-price.result) (o.exact me c.join-low.result) low.size c.loop-need.need c.in-Some.column
-          c.loop-need.invariant.0 c.if-low-ge256.false li c.price-price.ensures (apart_from m (taken n) (banned n) (member c.loop-need.used) c.loop-need.need (sym c.if-not-is_apart.ensures)) (cheapest_from (problem (o.meaning me) m) (o.laws me) (banned n) c.loop-need.need c.in-Some.column (sym c.in-Some.ensures)) c.use_columns.ensures.marks c.use_columns.ensures.keeps c.join-low.ensures.exact,
+          (member c.loop-need.used) (member c.with_left-used.result) (o.exact me low.total) (o.exact me c.price-price.result) (o.exact me c.join-low.result) low.size c.loop-need.need c.in-Some.column
+          c.loop-need.invariant.0 c.if-low-ge256.false li c.price-price.ensures (apart_from m (taken n) (banned n) (member c.loop-need.used) c.loop-need.need (sym c.if-not-is_apart.ensures)) (cheapest_from (problem (o.meaning me) m) (o.laws me) (banned n) c.loop-need.need c.in-Some.column (sym c.in-Some.ensures)) (used_marks m (banned n) (member c.loop-need.used) (member c.with_left-used.result) c.loop-need.need few c.with_left-used.ensures) (used_keeps m (banned n) (member c.loop-need.used) (member c.with_left-used.result) c.loop-need.need few c.with_left-used.ensures (none_past 256 c.loop-need.used)) c.join-low.ensures.exact,
       omega arith,
     )
 

@@ -5,6 +5,6 @@ use Rattle.fixed.proofs.set.FixedSet.from_fn.Given as goal
 abbrev pub invariant-loop-number : goal.invariant-loop-number
 invariant-loop-number g l =
     record {
-      whole : length l.on ≡ g.row.N;
-      judged : (k : ℕ) → k < l.number → goal.F-post g l.test k (slice_index_or l.on k false);
+      whole : length l.has-items ≡ g.row.N;
+      judged : (k : ℕ) → k < l.number → goal.F-post g l.test k (slice_index_or l.has-items k false);
     }
