@@ -6,7 +6,7 @@ use Rattle.charts.specs.Grids.{Grid}
 use Rattle.charts.specs.Sets.{is_held, Held, HeldTells}
 
 -- one number that is kept and passes is enough
-any_here : (p s : ℕ → Bool) (a k c : ℕ) → a ≤ c → c < a + k → s c ≡ true → p c ≡ true → list_any p (filter s (range_with_len a k)) ≡ true
+pub any_here : (p s : ℕ → Bool) (a k c : ℕ) → a ≤ c → c < a + k → s c ≡ true → p c ≡ true → list_any p (filter s (range_with_len a k)) ≡ true
 any_here p s a zero c l u h q = absurd (omega arith)
 any_here p s a (suc k) c l u h q =
     let rest = filter s (range_with_len (a + 1) k) in
@@ -24,7 +24,7 @@ any_here p s a (suc k) c l u h q =
     later false e = e
 
 -- where one passes, there is one
-any_found : (p s : ℕ → Bool) (a k : ℕ) → list_any p (filter s (range_with_len a k)) ≡ true → (c : ℕ) × (c < a + k) × (s c ≡ true) × (p c ≡ true)
+pub any_found : (p s : ℕ → Bool) (a k : ℕ) → list_any p (filter s (range_with_len a k)) ≡ true → (c : ℕ) × (c < a + k) × (s c ≡ true) × (p c ≡ true)
 any_found p s a zero h = absurd (false≢true h)
 any_found p s a (suc k) h = go (s a) refl (λ e. let w = any_found p s (a + 1) k e in let l = w.1 in (w.0, omega arith, w.2, w.3)) h
   where

@@ -1,10 +1,11 @@
 -- What the tests of needs and columns say, in words.
 use Rattle.std.proofs.Common.{◌≡◌, ℕ, zero, suc, ◌+◌, ◌<◌, ◌≤◌, Bool, true, false, cond, not, ◌&&◌, ◌||◌, eqb, List, [], ◌∷◌, filter, ◌⊎◌, sym, refl, ap, ◌∙◌, inl, inr, arith}
 use Rattle.std.specs.List.{list_any, list_all, range_with_len}
-use Rattle.std.proofs.lemmas.Bool.{cases_eq, and_parts, or_cases, not-true, false≢true, both_ways, eq-eqb}
+use Rattle.std.proofs.lemmas.Bool.{cases_eq, and_parts, or_cases, not-true, false≢true, both_ways, not_from_false, ne_eqb, eq-eqb}
 use Rattle.charts.specs.Grids.{Grid}
 use Rattle.charts.specs.Best.{Problem, columns}
-use Rattle.reductions.specs.Spares.{needs, follows, is_implied, is_useless, stands_in, no_dearer, is_outdone, is_spare, Implied, Useless, Outdone, Spare}
+use Rattle.charts.proofs.Holding.{any_here}
+use Rattle.reductions.specs.Spares.{needs, is_left, follows, OnlyLeft, is_implied, is_useless, stands_in, no_dearer, is_outdone, is_spare, Implied, Useless, Outdone, Spare}
 
 -- ---- tests of a row of numbers
 all_filtered : (p q : ℕ → Bool) (xs : List ℕ) → list_all p (filter q xs) ≡ list_all (λ x. not (q x) || p x) xs
@@ -41,16 +42,32 @@ any_at p a (suc n) h =
 module _ (g : Grid) (b ns : ℕ → Bool) where
   follows_from : (i j : ℕ) → follows g b i j ≡ true → (c : ℕ) → c < g.width → g.held c i ≡ true → (b c ≡ true) ⊎ (g.held c j ≡ true)
   follows_from i j h c l k =
-      let held_i : ℕ → Bool = λ c. g.held c i in
       let held_j : ℕ → Bool = λ c. g.held c j in
-      let free : ℕ → Bool = λ c. not (b c) in
-      let all = sym (all_filtered held_j held_i (filter free (columns g)) ∙ all_filtered (λ c. not (held_i c) || held_j c) free (columns g)) ∙ h in
-      go (b c) (g.held c i) (g.held c j) (all_at (λ c. not (free c) || (not (held_i c) || held_j c)) 0 g.width all c (omega arith) (omega arith)) k
+      let all = sym (all_filtered held_j (is_left g b i) (columns g)) ∙ h in
+      go (b c) (g.held c i) (g.held c j) (all_at (λ c. not (is_left g b i c) || held_j c) 0 g.width all c (omega arith) (omega arith)) k
     where
-      go : (x y z : Bool) → (not (not x) || (not y || z)) ≡ true → y ≡ true → (x ≡ true) ⊎ (z ≡ true)
+      go : (x y z : Bool) → (not (not x && y) || z) ≡ true → y ≡ true → (x ≡ true) ⊎ (z ≡ true)
       go true y z e q = inl refl
       go false true z e q = inr e
       go false false z e q = absurd (false≢true q)
+
+  -- a column that is left, where no other is, is the only one
+  pub only_from : (i c : ℕ) → c < g.width → is_left g b i c ≡ true → list_any (is_left g b i) (filter (λ k. not (eqb k c)) (columns g)) ≡ false → OnlyLeft g b i c
+  only_from i c l h none =
+      let w = and_parts (not (b c)) (g.held c i) h in
+      record { within = l; free = not-true (b c) w.0; holds = w.1; alone = alone }
+    where
+      left : (k : ℕ) → (y : Bool) → b k ≡ y → g.held k i ≡ true → (b k ≡ true) ⊎ (is_left g b i k ≡ true)
+      left k true e q = inl e
+      left k false e q = inr (ap (λ (x : Bool). not x && g.held k i) e ∙ q)
+      alone : (k : ℕ) → k < g.width → g.held k i ≡ true → (b k ≡ true) ⊎ (k ≡ c)
+      alone k m q = elim (left k (b k) refl q) [
+        | inl e ↦ inl e
+        | inr e ↦ elim (cases_eq k c) [
+            | inl same ↦ inr same
+            | inr other ↦ absurd (both_ways _ none (any_here (is_left g b i) (λ k. not (eqb k c)) 0 g.width k (omega arith) (omega arith) (not_from_false (eqb k c) (ne_eqb k c other)) e))
+          ]
+      ]
 
   pub implied_from : (j : ℕ) → is_implied g b ns j ≡ true → Implied g b ns j
   implied_from j h =

@@ -1,5 +1,5 @@
 -- Which needs and columns a node can do without.
-use Rattle.std.specs.Prelude.{◌≡◌, ℕ, ◌<◌, Bool, true, false, not, ◌||◌, ◌⊎◌, List, filter, ◌==◌}
+use Rattle.std.specs.Prelude.{◌≡◌, ℕ, ◌<◌, Bool, true, false, not, ◌&&◌, ◌||◌, ◌⊎◌, List, filter, ◌==◌}
 use Rattle.std.specs.List.{list_any, list_all, range_with_len}
 use Rattle.charts.specs.Grids.{Grid}
 use Rattle.charts.specs.Best.{Problem, columns}
@@ -9,9 +9,13 @@ use Rattle.charts.specs.Sets.{Held}
 abbrev pub needs : Grid → List ℕ
 needs g = range_with_len 0 g.wanted
 
+-- the column c holds the need i, and is none of the banned b
+abbrev pub is_left : Grid → (ℕ → Bool) → ℕ → ℕ → Bool
+is_left g b i c = not (b c) && g.held c i
+
 -- the columns that are left for a need, where b are banned
 abbrev pub left_for : Grid → (ℕ → Bool) → ℕ → List ℕ
-left_for g b i = filter (λ c. g.held c i) (filter (λ c. not (b c)) (columns g))
+left_for g b i = filter (is_left g b i) (columns g)
 
 -- whether each column that is left for the need i holds the need j
 abbrev pub follows : Grid → (ℕ → Bool) → ℕ → ℕ → Bool

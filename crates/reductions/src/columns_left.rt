@@ -1,8 +1,10 @@
 // Which columns hold a need.
-ghost use Rattle.std.specs.Prelude.{◌≡◌, IfSome};
+ghost use Rattle.std.specs.Prelude.{◌≡◌, ◌<◌, ◌==◌, true, not, filter, IfSome};
+ghost use Rattle.std.specs.List.{list_any};
 ghost use Rattle.fixed.specs.Sets.{member};
+ghost use Rattle.charts.specs.Best.{columns};
 ghost use Rattle.charts.specs.Sets.{is_held, HeldTells};
-ghost use Rattle.reductions.specs.Spares.{OnlyLeft};
+ghost use Rattle.reductions.specs.Spares.{is_left, OnlyLeft};
 
 use charts::{Chart, ColumnSet};
 
@@ -16,20 +18,37 @@ pub fn held_by<C: Chart>(chart: &C, set: &ColumnSet, need: usize) -> bool
         .any(|column| chart.holds(column, need))
 }
 
-// The one column that holds the need and is not banned; none where there is no such column, or more than one.
+// Whether the column holds the need and is not left out.
+pub fn is_left<C: Chart>(chart: &C, left_out: &ColumnSet, need: usize, column: usize) -> bool
+    ensures { result ≡ is_left (C.Chart.grid chart.now) (member left_out.now) need column }
+{
+    !left_out.contains(column) && chart.holds(column, need)
+}
+
+// The one column that is left for the need; none where there is no such column, or more than one.
 pub(crate) fn only_column<C: Chart>(chart: &C, banned: &ColumnSet, need: usize) -> Option<usize>
     ensures { IfSome result (OnlyLeft (C.Chart.grid chart.now) (member banned.now) need) }
 {
-    // A loop: what a chain gives at its second `next`, the check does not read off.
-    let mut only = None;
-    for c in 0..chart.columns() {
-        if banned.contains(c) || !chart.holds(c, need) {
-            continue;
-        }
-        if only.is_some() {
-            return None;
-        }
-        only = Some(c);
+    let only = first_left(chart, banned, need)?;
+    if has_another(chart, banned, need, only) {
+        return None;
     }
-    only
+    Some(only)
+}
+
+// The first column that is left for the need.
+fn first_left<C: Chart>(chart: &C, banned: &ColumnSet, need: usize) -> Option<usize>
+    ensures there { IfSome result (λ c. c < (C.Chart.grid chart.now).width) }
+    ensures left { IfSome result (λ c. is_left (C.Chart.grid chart.now) (member banned.now) need c ≡ true) }
+{
+    (0..chart.columns()).find(|column| is_left(chart, banned, need, *column))
+}
+
+// Whether a column other than this one is left for the need.
+fn has_another<C: Chart>(chart: &C, banned: &ColumnSet, need: usize, only: usize) -> bool
+    ensures { result ≡ list_any (is_left (C.Chart.grid chart.now) (member banned.now) need) (filter (λ c. not (c == only)) (columns (C.Chart.grid chart.now))) }
+{
+    (0..chart.columns())
+        .filter(|column| *column != only)
+        .any(|column| is_left(chart, banned, need, column))
 }

@@ -9,7 +9,7 @@ pub mod spare;
 pub mod step;
 pub mod trail;
 
-pub use columns_left::held_by;
+pub use columns_left::{held_by, is_left};
 pub use needs::{NeedSet, open_needs};
 pub use node::Node;
 pub use reducing::reduce;

@@ -5,7 +5,7 @@ ghost use Rattle.charts.specs.Sets.{is_held, Held};
 ghost use Rattle.reductions.specs.Spares.{Enough, follows, is_implied};
 ghost use Rattle.reductions.specs.Trails.{taken, banned};
 
-use crate::columns_left::held_by;
+use crate::columns_left::{held_by, is_left};
 use crate::needs::NeedSet;
 use crate::node::Node;
 use charts::{Chart, ColumnSet};
@@ -29,8 +29,7 @@ fn follows<C: Chart>(chart: &C, left_out: &ColumnSet, i: usize, j: usize) -> boo
     ensures { result ≡ follows (C.Chart.grid chart.now) (member left_out.now) i j }
 {
     (0..chart.columns())
-        .filter(|column| !left_out.contains(*column))
-        .filter(|column| chart.holds(*column, i))
+        .filter(|column| is_left(chart, left_out, i, *column))
         .all(|column| chart.holds(column, j))
 }
 
