@@ -11,7 +11,7 @@ use Rattle.charts.specs.Best.{Problem, columns}
 use Rattle.charts.specs.Sets.{is_held, Covers}
 use Rattle.charts.proofs.Listings.{in_counting, counting_in}
 use Rattle.charts.proofs.Holding.{held_from, from_held, unheld_from}
-use Rattle.covering.specs.Seeking.{is_left}
+use Rattle.reductions.specs.Spares.{is_left, left_for}
 use Rattle.covering.specs.Floors.{is_unused, cheaper, Apart, Cheapest}
 
 and_left : (a b : Bool) → (a && b) ≡ true → a ≡ true
@@ -41,13 +41,13 @@ none_kept p xs x h i = go (p x) refl
     go true e = absurd (empty (filter p xs) (in_kept p x xs i e) h)
 
 -- a column that is there, holds the need and is not left out is left
-left_in : (g : Grid) (b : ℕ → Bool) (i c : ℕ) → c < g.width → g.held c i ≡ true → b c ≡ false → In c (filter (is_left g b i) (columns g))
+left_in : (g : Grid) (b : ℕ → Bool) (i c : ℕ) → c < g.width → g.held c i ≡ true → b c ≡ false → In c (left_for g b i)
 left_in g b i c l h n = in_kept (is_left g b i) c (columns g) (counting_in 0 g.width c (omega arith) (omega arith)) (ap (λ (y : Bool). not y && g.held c i) n ∙ h)
 
 -- no column that is left is taken or used
-pub apart_from : (g : Grid) (t b u : ℕ → Bool) (i : ℕ) → list_all (is_unused t u) (filter (is_left g b i) (columns g)) ≡ true → Apart g t b u i
+pub apart_from : (g : Grid) (t b u : ℕ → Bool) (i : ℕ) → list_all (is_unused t u) (left_for g b i) ≡ true → Apart g t b u i
 apart_from g t b u i h c l y n =
-    let w = each_of (is_unused t u) (filter (is_left g b i) (columns g)) c h (left_in g b i c l y n) in
+    let w = each_of (is_unused t u) (left_for g b i) c h (left_in g b i c l y n) in
     (free (t c) (and_left (not (t c)) (not (u c)) w), free (u c) (and_rest (not (t c)) (not (u c)) w))
   where
     free : (a : Bool) → not a ≡ true → a ≡ false
@@ -85,8 +85,8 @@ module _ (p : Problem) (laws : Laws p.order) where
       later c a f (inl e) = rw e a
       later c a f (inr i) = f c i
 
-  pub cheapest_from : (b : ℕ → Bool) (i r : ℕ) → reduce (cheaper p) (filter (is_left p.grid b i) (columns p.grid)) ≡ Some r → Cheapest p b i r
-  cheapest_from b i r e c l h n = go (filter (is_left p.grid b i) (columns p.grid)) e (left_in p.grid b i c l h n)
+  pub cheapest_from : (b : ℕ → Bool) (i r : ℕ) → reduce (cheaper p) (left_for p.grid b i) ≡ Some r → Cheapest p b i r
+  cheapest_from b i r e c l h n = go (left_for p.grid b i) e (left_in p.grid b i c l h n)
     where
       go : (xs : List ℕ) → reduce (cheaper p) xs ≡ Some r → In c xs → AtMost r c
       go [] e j = absurd j
@@ -112,7 +112,7 @@ all_covered g s h = go (range_with_len 0 g.wanted) (λ i k. let l = (in_counting
     go (x ∷ xs) f = ap (λ (b : Bool). b && list_all (is_held g s) xs) (f x (inl refl)) ∙ go xs (λ i k. f i (inr k))
 
 -- each column that holds the need is left out where none is left
-pub none_left_from : (g : Grid) (b : ℕ → Bool) (i : ℕ) → length (filter (is_left g b i) (columns g)) ≡ 0 → (c : ℕ) → c < g.width → g.held c i ≡ true → b c ≡ true
+pub none_left_from : (g : Grid) (b : ℕ → Bool) (i : ℕ) → length (left_for g b i) ≡ 0 → (c : ℕ) → c < g.width → g.held c i ≡ true → b c ≡ true
 none_left_from g b i h c l y = go (b c) refl
   where
     go : (v : Bool) → b c ≡ v → b c ≡ true

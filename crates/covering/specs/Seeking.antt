@@ -1,6 +1,5 @@
 -- What one look at a node says, and what a search keeps on its way.
-use Rattle.std.specs.Prelude.{◌≡◌, ℕ, ◌<◌, ◌≤◌, Bool, true, false, not, ◌&&◌, Option, Some, None}
-use Rattle.charts.specs.Grids.{Grid}
+use Rattle.std.specs.Prelude.{◌≡◌, ℕ, ◌<◌, ◌≤◌, Bool, true, false, Option, Some, None}
 use Rattle.charts.specs.Best.{Problem}
 use Rattle.charts.specs.Sets.{ColumnSet, fine, exceeds, Covers}
 use Rattle.reductions.specs.declared.node.Node.{Node}
@@ -9,10 +8,6 @@ use Rattle.reductions.specs.Goals.{Good, Somewhere, turns}
 use Rattle.reductions.specs.Trails.{steps_of, taken, banned}
 use Rattle.covering.specs.declared.turn.Turn.{Turn}
 use Rattle.covering.specs.declared.turn.Turn.TheVariants.{Found, Dead, Take}
-
--- the column holds the need and is not left out
-abbrev pub is_left : Grid → (ℕ → Bool) → ℕ → ℕ → Bool
-is_left g b i c = not (b c) && g.held c i
 
 -- the node has no set that is good for the bound
 abbrev pub Barren : Problem → Bool → (ℕ → Bool) → Node → Type 0

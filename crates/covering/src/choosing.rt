@@ -4,23 +4,16 @@ ghost use Rattle.std.specs.List.{range_with_len};
 ghost use Rattle.fixed.specs.Sets.{member};
 ghost use Rattle.charts.specs.Best.{columns};
 ghost use Rattle.charts.specs.Sets.{is_held, Covers};
+ghost use Rattle.reductions.specs.Spares.{is_left, left_for};
 ghost use Rattle.reductions.specs.Trails.{taken, banned};
-ghost use Rattle.covering.specs.Seeking.{is_left};
 
 use charts::{Chart, ColumnSet};
-use reductions::{NeedSet, Node, held_by, open_needs};
+use reductions::{NeedSet, Node, held_by, is_left, open_needs};
 use std::cmp::Reverse;
-
-// Whether the column holds the need and is not left out.
-pub(crate) fn is_left<C: Chart>(chart: &C, left_out: &ColumnSet, need: usize, column: usize) -> bool
-    ensures { result ≡ is_left (C.Chart.grid chart.now) (member left_out.now) need column }
-{
-    !left_out.contains(column) && chart.holds(column, need)
-}
 
 // How many columns are left for the need.
 fn count_left<C: Chart>(chart: &C, left_out: &ColumnSet, need: usize) -> usize
-    ensures { result ≡ length (filter (is_left (C.Chart.grid chart.now) (member left_out.now) need) (columns (C.Chart.grid chart.now))) }
+    ensures { result ≡ length (left_for (C.Chart.grid chart.now) (member left_out.now) need) }
 {
     (0..chart.columns())
         .filter(|column| is_left(chart, left_out, need, *column))
@@ -52,7 +45,7 @@ fn count_held<C: Chart>(chart: &C, needs: &NeedSet, column: usize) -> usize
 pub(crate) fn widest_column<C: Chart>(chart: &C, node: &Node, need: usize) -> Option<usize>
     ensures there { IfSome result (λ c. c < (C.Chart.grid chart.now).width) }
     ensures left { IfSome result (λ c. is_left (C.Chart.grid chart.now) (banned node.now) need c ≡ true) }
-    ensures none { IsNone result → length (filter (is_left (C.Chart.grid chart.now) (banned node.now) need) (columns (C.Chart.grid chart.now))) ≡ 0 }
+    ensures none { IsNone result → length (left_for (C.Chart.grid chart.now) (banned node.now) need) ≡ 0 }
 {
     let needs = open_needs(chart, &node.taken);
     (0..chart.columns())

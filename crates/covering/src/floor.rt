@@ -3,16 +3,16 @@ ghost use Rattle.std.specs.Prelude.{◌≡◌, ℕ, ◌<◌, ◌≤◌, true, �
 ghost use Rattle.std.specs.List.{list_all, reduce};
 ghost use Rattle.fixed.specs.Sets.{member};
 ghost use Rattle.charts.specs.Best.{problem, columns};
+ghost use Rattle.reductions.specs.Spares.{is_left, left_for};
 ghost use Rattle.reductions.specs.Trails.{taken, banned};
 ghost use Rattle.covering.specs.Floors.{is_unused, cheaper};
 ghost use Rattle.covering.specs.Priced.{Priced};
-ghost use Rattle.covering.specs.Seeking.{is_left, Barren};
+ghost use Rattle.covering.specs.Seeking.{Barren};
 
-use crate::choosing::is_left;
 use crate::quest::Quest;
 use charts::{Chart, ColumnSet, Valued, is_fine, no_dearer};
 use orders::CostOrder;
-use reductions::Node;
+use reductions::{Node, is_left};
 
 // Whether the column is neither taken nor used.
 fn is_unused(node: &Node, used: &ColumnSet, column: usize) -> bool
@@ -23,7 +23,7 @@ fn is_unused(node: &Node, used: &ColumnSet, column: usize) -> bool
 
 // Whether no column that is left for the need is taken or used.
 fn is_apart<C: Chart>(chart: &C, node: &Node, used: &ColumnSet, need: usize) -> bool
-    ensures { result ≡ list_all (is_unused (taken node.now) (member used.now)) (filter (is_left (C.Chart.grid chart.now) (banned node.now) need) (columns (C.Chart.grid chart.now))) }
+    ensures { result ≡ list_all (is_unused (taken node.now) (member used.now)) (left_for (C.Chart.grid chart.now) (banned node.now) need) }
 {
     (0..chart.columns())
         .filter(|column| is_left(chart, &node.banned, need, *column))
@@ -44,7 +44,7 @@ fn cheapest<O: CostOrder, C: Chart>(
     left_out: &ColumnSet,
     need: usize,
 ) -> Option<usize>
-    ensures { result ≡ reduce (cheaper (problem (O.CostOrder.meaning order.now) (C.Chart.grid chart.now))) (filter (is_left (C.Chart.grid chart.now) (member left_out.now) need) (columns (C.Chart.grid chart.now))) }
+    ensures { result ≡ reduce (cheaper (problem (O.CostOrder.meaning order.now) (C.Chart.grid chart.now))) (left_for (C.Chart.grid chart.now) (member left_out.now) need) }
 {
     (0..chart.columns())
         .filter(|column| is_left(chart, left_out, need, *column))

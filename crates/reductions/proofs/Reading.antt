@@ -60,13 +60,14 @@ module _ (g : Grid) (b ns : ℕ → Bool) where
       left : (k : ℕ) → (y : Bool) → b k ≡ y → g.held k i ≡ true → (b k ≡ true) ⊎ (is_left g b i k ≡ true)
       left k true e q = inl e
       left k false e q = inr (ap (λ (x : Bool). not x && g.held k i) e ∙ q)
+
       alone : (k : ℕ) → k < g.width → g.held k i ≡ true → (b k ≡ true) ⊎ (k ≡ c)
       alone k m q = elim (left k (b k) refl q) [
         | inl e ↦ inl e
         | inr e ↦ elim (cases_eq k c) [
-            | inl same ↦ inr same
-            | inr other ↦ absurd (both_ways _ none (any_here (is_left g b i) (λ k. not (eqb k c)) 0 g.width k (omega arith) (omega arith) (not_from_false (eqb k c) (ne_eqb k c other)) e))
-          ]
+          | inl same ↦ inr same
+          | inr other ↦ absurd (both_ways _ none (any_here (is_left g b i) (λ k. not (eqb k c)) 0 g.width k (omega arith) (omega arith) (not_from_false (eqb k c) (ne_eqb k c other)) e))
+        ]
       ]
 
   pub implied_from : (j : ℕ) → is_implied g b ns j ≡ true → Implied g b ns j
