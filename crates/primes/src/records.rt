@@ -16,17 +16,25 @@ pub(crate) fn push(list: &mut PrimeList, x: usize, needs: &NeedList) -> Result<(
     ensures room { is_ok result ≡ nat_lt (length (entries list.old)) 256 }
     ensures after { entries list.new ≡ pushed 256 (entries list.old) (record { term = term_of x; number = x; needs = held (entries needs.now) (term_of x); essential = false }) }
 {
-    let term = term_at(x);
-    list.push(Prime {
-        term,
+    let mut prime = Prime {
+        term: term_at(x),
         number: x,
-        needs: count_needs(term, needs),
+        needs: 0,
         essential: false,
-    })
+    };
+    count_needs(&mut prime, needs);
+    list.push(prime)
+}
+
+// Counts the needs that a prime holds, and notes the count in its record.
+fn count_needs(prime: &mut Prime, needs: &NeedList)
+    ensures { prime.new ≡ record { term = prime.old.term; number = prime.old.number; needs = held (entries needs.now) prime.old.term; essential = prime.old.essential } }
+{
+    prime.needs = needs_held(prime.term, needs);
 }
 
 // How many needs a term holds.
-fn count_needs(term: Term, needs: &NeedList) -> usize
+fn needs_held(term: Term, needs: &NeedList) -> usize
     ensures { result ≡ held (entries needs.now) term }
 {
     needs
