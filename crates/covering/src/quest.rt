@@ -6,7 +6,8 @@ ghost use Rattle.covering.specs.Priced.{Priced};
 use charts::{Chart, Valued};
 use orders::CostOrder;
 
-// Sets of the chart's columns that cover and are better than the bound, or, unless they are to be strictly so, no worse.
+// Sets of the chart's columns that cover and are better than the bound, or, unless they are to be strictly so, no worse. The fact
+// is truncated, because nothing says that totals of any kind have at most one proof of being equal.
 #[derive(Drop)]
 pub struct Quest<'a, O: CostOrder, C: Chart> {
     pub order: &'a O,

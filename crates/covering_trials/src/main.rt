@@ -20,6 +20,7 @@ fn main(rt: HostRuntime) -> io::Result<()> {
     let mut by_longest = Report::default();
     let mut price = Price::new();
     let _ = price.set_prices([3, 0, 1, 2, 3, 1, 0, 2, 1]);
+    // A loop: each turn rolls the dice on and adds to three reports.
     for number in 0..CHARTS {
         let sample = dice.sample(number);
         by_count.add(compare(&Count, &sample));

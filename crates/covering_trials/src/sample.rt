@@ -10,7 +10,7 @@ pub const MOST_COLUMNS: usize = 10;
 
 pub const MOST_NEEDS: usize = 12;
 
-// Up to 10 columns, each priced as a term, and up to 12 needs.
+// Up to 10 columns, each priced as a term, and up to 12 needs. Fixed tables and the counts: the chart answers past them too.
 #[derive(Clone, Copy)]
 pub struct Sample {
     pub columns: usize,

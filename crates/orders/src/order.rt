@@ -43,7 +43,7 @@ pub trait CostOrder {
         ensures exact { JoinsExactly (meaning self.now) (exact self.now a) (exact self.now b) (exact self.now result) }
         ensures value { result ≡ join self.now a b };
 
-    // Whether one total is at most another, of at most 256 terms each.
+    // Whether one total is at most another, of at most 256 terms each. No default body: it would ask `Ord` of every kind of total.
     fn at_most(&self, a: Self::Total, b: Self::Total) -> bool
         ensures exact { ComparesExactly (meaning self.now) (exact self.now a) (exact self.now b) result }
         ensures value { result ≡ at_most self.now a b };

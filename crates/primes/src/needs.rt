@@ -45,7 +45,7 @@ fn add_pairs<S: Source>(source: &S, list: &mut NeedList)
     }
 }
 
-// Adds the pairs with one lower row, by the input.
+// Adds the pairs with one lower row, by the input. The bound on the row is a clause: rows are plain numbers to every source.
 fn add_pairs_at<S: Source>(source: &S, row: usize, list: &mut NeedList)
     requires { row < 256 }
     ensures { entries list.new ≡ added (S.Source.meaning source.now) (entries list.old) (pairs_at row 0 (S.Source.meaning source.now).inputs) }

@@ -4,7 +4,7 @@
 use primes::{PrimeList, Work, primes};
 use sources::TruthTable;
 use std::io;
-use terms::Refusal;
+use terms::{Mark, Refusal};
 
 const TIMES: usize = 100;
 
@@ -19,9 +19,14 @@ fn main(rt: HostRuntime) -> io::Result<()> {
 fn run() -> Result<usize, Refusal> {
     let mut truth = TruthTable::new();
     truth.size(8)?;
+    // A loop, here and below: each turn changes the table or the list.
     for row in 0..256 {
-        let code = if row % 7 == 0 || row % 5 == 1 { 0 } else { 1 };
-        truth.mark(row, code)?;
+        let mark = if row % 7 == 0 || row % 5 == 1 {
+            Mark::Off
+        } else {
+            Mark::On
+        };
+        truth.mark(row, mark.into())?;
     }
     let mut list = PrimeList::new();
     for _ in 0..TIMES {

@@ -12,7 +12,7 @@ pub struct Node {
 }
 
 impl Node {
-    // Takes a column, or bans it.
+    // Takes a column, or bans it; a flag, since a step keeps it as one.
     pub fn mark(&mut self, column: usize, takes: bool)
         ensures taken { (k : ℕ) → k < 256 → member self.new.taken k ≡ ((takes && column == k) || member self.old.taken k) }
         ensures banned { (k : ℕ) → k < 256 → member self.new.banned k ≡ ((not takes && column == k) || member self.old.banned k) }

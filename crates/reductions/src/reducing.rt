@@ -1,4 +1,5 @@
 // The reductions at a node. The order and the chart stay two parameters: in a struct of the two, each clause would name them by longer paths.
+// That each pass narrows the trail is one named relation of two trails: no type holds the trail before.
 ghost use Rattle.charts.specs.Best.{problem};
 ghost use Rattle.reductions.specs.Goals.{Narrowed};
 

@@ -6,7 +6,7 @@ use terms::Mark;
 pub mod methods;
 pub mod source;
 
-// The marks from the 2^inputs-th on belong to no row.
+// The marks from the 2^inputs-th on belong to no row. A table of fixed size, and no list of the rows: nothing is allocated.
 // No model: clauses would see a bare table, of any size, and there the law that each source owes (`proper`) fails.
 #[derive(Clone, Copy, Debug)]
 pub struct TruthTable {

@@ -20,6 +20,7 @@ fn table(inputs: usize, on: &[usize], free: &[usize]) -> Result<TruthTable, Refu
 fn symmetric(inputs: usize, low: u32, high: u32) -> Result<TruthTable, Refusal> {
     let mut truth = TruthTable::new();
     truth.size(inputs)?;
+    // A loop: each turn marks the table.
     for row in 0..truth.rows() {
         if (low..=high).contains(&row.count_ones()) {
             truth.mark(row, 1)?;

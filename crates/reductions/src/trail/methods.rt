@@ -23,7 +23,7 @@ impl Trail {
         }
     }
 
-    // Takes or bans a free column; any other stays as it is.
+    // Takes or bans a free column; any other stays as it is. The two flags are those of `Step`.
     pub fn fix(&mut self, column: usize, takes: bool, decided: bool)
         ensures root { self.new.root ≡ self.old.root }
         ensures steps { steps_of self.new ≡ (if is_free (taken self.old.node) (banned self.old.node) column then step column takes decided ∷ steps_of self.old else steps_of self.old) }
@@ -41,6 +41,7 @@ impl Trail {
     }
 
     // Turns the last decision, with all that came after it undone; with none left the trail is back at its root, and that is told.
+    // What it turned is in the trail, so the answer is a flag with no value beside it.
     pub fn back_up(&mut self) -> bool
         ensures root { self.new.root ≡ self.old.root }
         ensures owed { result ≡ owes (steps_of self.old) }

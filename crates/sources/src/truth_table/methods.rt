@@ -61,7 +61,7 @@ impl TruthTable {
         Ok(())
     }
 
-    // Marks one row.
+    // Marks one row. The code is a number, since one that no mark has is refused.
     pub fn mark(&mut self, row: usize, code: usize) -> Result<(), Refusal>
         ensures result { result ≡ judged (mark_breaks (table self.old).inputs row code) tt }
         ensures after { table self.new ≡ settled (mark_breaks (table self.old).inputs row code) (table self.old) (with_row (table self.old) row (entered code)) }
@@ -73,7 +73,7 @@ impl TruthTable {
         Ok(())
     }
 
-    // Marks every row that a term holds; the term is given as two bytes.
+    // Marks every row that a term holds; the term is given as two bytes and the mark by its code, which may both be refused.
     pub fn sweep(&mut self, mask: u8, levels: u8, code: usize) -> Result<(), Refusal>
         ensures result { result ≡ judged (sweep_breaks (table self.old).inputs mask levels code) tt }
         ensures after { table self.new ≡ settled (sweep_breaks (table self.old).inputs mask levels code) (table self.old) (with_rows (table self.old) mask levels (entered code)) }

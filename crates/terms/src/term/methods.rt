@@ -10,7 +10,7 @@ use crate::weights::weight;
 use std::alloc::{AllocError, Global};
 
 impl Term {
-    // The term of two bytes, for a function of so many inputs.
+    // The term of two bytes, for a function of so many inputs. The struct of the two bytes is the term itself, once they make one.
     pub fn new(inputs: usize, mask: u8, levels: u8) -> Result<Term, Refusal>
         ensures test { is_ok result ≡ is_term inputs mask levels }
         ensures value { MatchResult result (λ t. (t.mask ≡ mask) × (t.levels ≡ levels)) (λ e. e ≡ MalformedTerm) }
