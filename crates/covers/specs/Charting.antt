@@ -1,5 +1,5 @@
 -- The chart of a list of primes and a list of needs: a column for each prime.
-use Rattle.std.specs.Prelude.{ℕ, length, slice_index_or}
+use Rattle.std.specs.Prelude.{ℕ, min, length, slice_index_or}
 use Rattle.fixed.specs.declared.list.FixedList.{FixedList}
 use Rattle.fixed.specs.Lists.{entries, entries_fit}
 use Rattle.terms.specs.declared.term.Term.{Term}
@@ -11,11 +11,11 @@ use Rattle.charts.specs.Grids.{Grid, Small}
 
 -- the prime of a column
 abbrev pub prime_at : FixedList Prime 256 → ℕ → Term
-prime_at l c = (slice_index_or (entries l) c no_prime).term
+prime_at l c = (slice_index_or (entries l) (min c 255) no_prime).term
 
 -- the need of a number
 abbrev pub need_at : FixedList Need 1280 → ℕ → Need
-need_at d i = slice_index_or (entries d) i (row_need 0)
+need_at d i = slice_index_or (entries d) (min i 1279) (row_need 0)
 
 abbrev pub prime_grid : FixedList Prime 256 → FixedList Need 1280 → Grid
 prime_grid l d = record { width = length (entries l); wanted = length (entries d); held = λ c i. meets (prime_at l c) (need_at d i); term = prime_at l }

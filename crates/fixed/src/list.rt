@@ -1,6 +1,7 @@
 // Lists of at most a fixed number of items.
-ghost use Rattle.std.specs.Prelude.{◌≡◌, ◌-◌, ◌≤◌, ◌++◌, ◌==◌, [], length, is_ok, nat_lt, slice_get, slice_set};
+ghost use Rattle.std.specs.Prelude.{⊤, Some, min, take, ◌≡◌, ◌-◌, ◌≤◌, ◌++◌, ◌==◌, [], length, is_ok, nat_lt, slice_get, slice_set};
 ghost use Rattle.std.specs.Option.{option_to_list};
+ghost use Rattle.fixed.specs.Texts.{full_text};
 
 use std::alloc::AllocError;
 use std::error::Error;
@@ -19,6 +20,8 @@ pub struct FixedList<T, const N: usize> {
 pub struct Full;
 
 impl fmt::Display for Full {
+    ghost output = { λ _. Some full_text };
+
     fn fmt<W: fmt::Write>(&self, f: &mut fmt::Formatter<W>) -> fmt::Result {
         write!(f, "no room for another item")
     }
@@ -29,6 +32,10 @@ impl Error for Full {}
 impl<T: Copy, const N: usize> Copy for FixedList<T, N> {}
 
 impl<T: Copy, const N: usize> Clone for FixedList<T, N> {
+    ghost is_clone = { λ x y. y ≡ x };
+
+    ghost is_infallible = { λ _. ⊤ };
+
     fn clone(&self) -> Result<FixedList<T, N>, AllocError> {
         Ok(*self)
     }
@@ -50,6 +57,16 @@ impl<T: Copy + Default, const N: usize> FixedList<T, N> {
 
 impl<T: Copy, const N: usize> FixedList<T, N> {
     ghost use Rattle.fixed.specs.Lists.{entries, pushed};
+
+    // The first `len` items of a table, or all where it has no more.
+    pub fn from_table(items: [T; N], len: usize) -> FixedList<T, N>
+        ensures { entries result ≡ take (min len N) items }
+    {
+        FixedList {
+            items,
+            len: len.min(N),
+        }
+    }
 
     // How many items there are.
     pub fn len(&self) -> usize

@@ -1,4 +1,5 @@
 // One of the three orders, chosen while running.
+ghost use Rattle.std.specs.Prelude.{◌≡◌};
 ghost use Rattle.orders.specs.Any.{any_meaning, any_laws, any_exact, any_price, any_join, any_at_most};
 
 use crate::count::Count;
@@ -25,13 +26,13 @@ impl CostOrder for AnyOrder {
 
     ghost exact = { any_exact };
 
-    ghost empty = { λ _. (0, 0) };
+    ghost empty_gives = { λ _ r. r ≡ (0, 0) };
 
-    ghost price = { any_price };
+    ghost price_gives = { λ o term r. r ≡ any_price o term };
 
-    ghost join = { any_join };
+    ghost join_gives = { λ o a b r. r ≡ any_join o a b };
 
-    ghost at_most = { any_at_most };
+    ghost at_most_gives = { λ o a b r. r ≡ any_at_most o a b };
 
     fn empty(&self) -> (u32, u32) {
         match self {

@@ -1,5 +1,5 @@
 // Fewer terms first, then fewer contacts.
-ghost use Rattle.std.specs.Prelude.{◌+◌};
+ghost use Rattle.std.specs.Prelude.{◌≡◌, ◌+◌};
 ghost use Rattle.terms.specs.Terms.{contacts};
 ghost use Rattle.orders.specs.Kinds.{by_count, pair_at_most, stopped};
 ghost use Rattle.orders.specs.Lawful.{count_laws};
@@ -20,13 +20,13 @@ impl CostOrder for Count {
 
     ghost exact = { λ _ a. a };
 
-    ghost empty = { λ _. (0, 0) };
+    ghost empty_gives = { λ _ r. r ≡ (0, 0) };
 
-    ghost price = { λ _ term. (1, contacts term) };
+    ghost price_gives = { λ _ term r. r ≡ (1, contacts term) };
 
-    ghost join = { λ _ a b. (stopped (a.0 + b.0), stopped (a.1 + b.1)) };
+    ghost join_gives = { λ _ a b r. r ≡ (stopped (a.0 + b.0), stopped (a.1 + b.1)) };
 
-    ghost at_most = { λ _. pair_at_most };
+    ghost at_most_gives = { λ _ a b r. r ≡ pair_at_most a b };
 
     fn empty(&self) -> (u32, u32) {
         (0, 0)

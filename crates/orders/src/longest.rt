@@ -1,5 +1,5 @@
 // The most contacts in any one term: the longest term decides.
-ghost use Rattle.std.specs.Prelude.{max, nat_le};
+ghost use Rattle.std.specs.Prelude.{◌≡◌, max, nat_le};
 ghost use Rattle.terms.specs.Terms.{contacts};
 ghost use Rattle.orders.specs.Kinds.{by_longest};
 ghost use Rattle.orders.specs.Lawful.{longest_laws};
@@ -20,13 +20,13 @@ impl CostOrder for Longest {
 
     ghost exact = { λ _ a. a };
 
-    ghost empty = { λ _. 0 };
+    ghost empty_gives = { λ _ r. r ≡ 0 };
 
-    ghost price = { λ _. contacts };
+    ghost price_gives = { λ _ term r. r ≡ contacts term };
 
-    ghost join = { λ _. max };
+    ghost join_gives = { λ _ a b r. r ≡ max a b };
 
-    ghost at_most = { λ _. nat_le };
+    ghost at_most_gives = { λ _ a b r. r ≡ nat_le a b };
 
     fn empty(&self) -> u32 {
         0

@@ -63,13 +63,13 @@ impl CostOrder for Price {
 
     ghost exact = { λ _ a. a };
 
-    ghost empty = { λ _. 0 };
+    ghost empty_gives = { λ _ r. r ≡ 0 };
 
-    ghost price = { λ o. price_at o.prices };
+    ghost price_gives = { λ o term r. r ≡ price_at o.prices term };
 
-    ghost join = { λ _ a b. stopped (a + b) };
+    ghost join_gives = { λ _ a b r. r ≡ stopped (a + b) };
 
-    ghost at_most = { λ _. nat_le };
+    ghost at_most_gives = { λ _ a b r. r ≡ nat_le a b };
 
     fn empty(&self) -> u32 {
         0
