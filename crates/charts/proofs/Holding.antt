@@ -1,7 +1,7 @@
 -- Whether a number of a row passes a test, and what that says of the numbers.
 use Rattle.std.proofs.Common.{◌≡◌, ℕ, zero, suc, ◌+◌, ◌<◌, ◌≤◌, Bool, true, false, cond, not, nat_lt, ◌&&◌, ◌||◌, ◌∷◌, filter, sym, refl, ap, ◌∙◌, ⊎_elim, arith}
 use Rattle.std.specs.List.{list_any, range_with_len}
-use Rattle.std.proofs.lemmas.Bool.{cases_eq, lt-ltb, false≢true}
+use Rattle.std.proofs.lemmas.Bool.{cases_eq, or_right, lt-ltb, false≢true}
 use Rattle.charts.specs.Grids.{Grid}
 use Rattle.charts.specs.Sets.{is_held, Held, HeldTells}
 
@@ -15,12 +15,8 @@ any_here p s a (suc k) c l u h q =
     (λ (n : c ≡ a → ⊥). later (s a) (any_here p s (a + 1) k c (omega arith) (omega arith) h q))
     (cases_eq c a)
   where
-    or_true : (b : Bool) → (b || true) ≡ true
-    or_true true = refl
-    or_true false = refl
-
     later : (b : Bool) → list_any p (filter s (range_with_len (a + 1) k)) ≡ true → list_any p (cond b (a ∷ filter s (range_with_len (a + 1) k)) (filter s (range_with_len (a + 1) k))) ≡ true
-    later true e = ap (λ (y : Bool). p a || y) e ∙ or_true (p a)
+    later true e = or_right (p a) (list_any p (filter s (range_with_len (a + 1) k))) e
     later false e = e
 
 -- where one passes, there is one

@@ -31,6 +31,11 @@ cost p s = total_of p (down s p.grid.width)
 abbrev pub size : Grid → (ℕ → Bool) → ℕ
 size g s = length (down s g.width)
 
+-- a total and a number of columns are those of the set s
+pub record Priced (p : Problem) (x : p.order.Total) (n : ℕ) (s : ℕ → Bool) : Type 0 where
+  pub total : x ≡ cost p s
+  pub size : n ≡ size p.grid s
+
 -- s is better than t
 abbrev pub exceeds : Problem → (ℕ → Bool) → (ℕ → Bool) → Bool
 exceeds p s t = beats p.order (cost p s) (size p.grid s) (cost p t) (size p.grid t)

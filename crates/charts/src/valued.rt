@@ -1,10 +1,9 @@
 // What a set of columns costs, and which of two sets is better.
-ghost use Rattle.std.specs.Prelude.{◌≡◌, ◌≤◌, List, length};
-ghost use Rattle.terms.specs.declared.term.Term.{Term};
-ghost use Rattle.orders.specs.Orders.{total};
+ghost use Rattle.std.specs.Prelude.{◌≡◌};
+ghost use Rattle.orders.specs.Orders.{OnTotals};
 ghost use Rattle.charts.specs.Best.{problem, beats};
 ghost use Rattle.fixed.specs.Sets.{member};
-ghost use Rattle.charts.specs.Sets.{cost, size, passes};
+ghost use Rattle.charts.specs.Sets.{Priced, cost, size, passes};
 
 use crate::chart::Chart;
 use crate::columns::ColumnSet;
@@ -24,8 +23,9 @@ pub fn value_of<O: CostOrder, C: Chart>(order: &O, chart: &C, set: &ColumnSet) -
     ensures total { O.CostOrder.exact order.now result.total ≡ cost (problem (O.CostOrder.meaning order.now) (C.Chart.grid chart.now)) (member set.now) }
     ensures size { result.size ≡ size (C.Chart.grid chart.now) (member set.now) }
     ensures set { result.set ≡ set.now }
+    ensures priced { Priced (problem (O.CostOrder.meaning order.now) (C.Chart.grid chart.now)) (O.CostOrder.exact order.now result.total) result.size (member result.set) }
 {
-    // A loop: a total is pinned only through the exact one, which the contract of a fold's closure cannot say.
+    // A loop: one pass sums and counts; as chains it would be two passes over the same columns.
     let mut total = order.empty();
     let mut size = 0;
     for k in 0..chart.columns() {
@@ -45,7 +45,7 @@ pub fn value_of<O: CostOrder, C: Chart>(order: &O, chart: &C, set: &ColumnSet) -
 
 // Whether a total `a` of `x` columns is better than `b` of `y`: it is less, or it is no more and `x` is fewer.
 pub fn is_better<O: CostOrder>(order: &O, a: O::Total, x: usize, b: O::Total, y: usize) -> bool
-    ensures { (ts us : List Term) → O.CostOrder.exact order.now a ≡ total (O.CostOrder.meaning order.now) ts → O.CostOrder.exact order.now b ≡ total (O.CostOrder.meaning order.now) us → length ts ≤ 256 → length us ≤ 256 → result ≡ beats (O.CostOrder.meaning order.now) (O.CostOrder.exact order.now a) x (O.CostOrder.exact order.now b) y }
+    ensures { OnTotals (O.CostOrder.meaning order.now) (O.CostOrder.exact order.now a) (O.CostOrder.exact order.now b) (result ≡ beats (O.CostOrder.meaning order.now) (O.CostOrder.exact order.now a) x (O.CostOrder.exact order.now b) y) }
 {
     if !order.at_most(b, a) {
         return true;
@@ -64,7 +64,7 @@ pub fn is_fine<O: CostOrder>(
     b: &Valued<O::Total>,
     strict: bool,
 ) -> bool
-    ensures { (ts us : List Term) → O.CostOrder.exact order.now a.now.total ≡ total (O.CostOrder.meaning order.now) ts → O.CostOrder.exact order.now b.now.total ≡ total (O.CostOrder.meaning order.now) us → length ts ≤ 256 → length us ≤ 256 → result ≡ passes (O.CostOrder.meaning order.now) strict (O.CostOrder.exact order.now a.now.total) a.now.size (O.CostOrder.exact order.now b.now.total) b.now.size }
+    ensures { OnTotals (O.CostOrder.meaning order.now) (O.CostOrder.exact order.now a.now.total) (O.CostOrder.exact order.now b.now.total) (result ≡ passes (O.CostOrder.meaning order.now) strict (O.CostOrder.exact order.now a.now.total) a.now.size (O.CostOrder.exact order.now b.now.total) b.now.size) }
 {
     if strict {
         is_better(order, a.total, a.size, b.total, b.size)

@@ -7,7 +7,7 @@ use Rattle.charts.specs.Best.{Problem}
 use Rattle.charts.specs.Sets.{down, fine, passes}
 use Rattle.charts.proofs.Values.{part, fine_down, told, short}
 use Rattle.reductions.specs.Goals.{Good}
-use Rattle.covering.specs.Priced.{Priced}
+use Rattle.charts.specs.Sets.{Priced}
 
 module _ (p : Problem) (laws : Laws p.order) (strict : Bool) (bound t b : ℕ → Bool) where
   -- what is taken is too much already

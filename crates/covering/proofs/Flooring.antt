@@ -10,7 +10,7 @@ use Rattle.charts.specs.Sets.{down, cost, size, fine, passes, put}
 use Rattle.charts.proofs.Values.{not_beats, not_beats_trans, more, more_members, part, fine_down}
 use Rattle.reductions.specs.Goals.{Good}
 use Rattle.covering.specs.Floors.{Floor, Apart, Cheapest}
-use Rattle.covering.specs.Priced.{Priced}
+use Rattle.charts.specs.Sets.{Priced}
 
 -- what costs no more and has no more columns passes too
 passes_mono : {m : Meaning} (laws : Laws m) (strict : Bool) (a c b : m.Total) (x z y : ℕ) → m.at_most a c ≡ true → x ≤ z → passes m strict c z b y ≡ true → passes m strict a x b y ≡ true

@@ -1,7 +1,7 @@
 -- The columns that are left for a need: what a chain over them says of each.
 use Rattle.std.proofs.Common.{◌≡◌, ℕ, ◌<◌, ◌≤◌, Bool, true, false, not, nat_lt, ◌&&◌, ◌||◌, cond, List, [], ◌∷◌, filter, length, Some, sym, refl, ap, ◌∙◌, subst, inl, inr, ⊎_elim, arith}
 use Rattle.std.specs.List.{list_all, fold, reduce, range_with_len}
-use Rattle.std.proofs.lemmas.Bool.{both_ways, cases_lt, lt-ltb, not-true, not-false, false≢true}
+use Rattle.std.proofs.lemmas.Bool.{and_parts, or_right, both_ways, cases_lt, lt-ltb, not-true, not-false, false≢true}
 use Rattle.terms.specs.Lists.{In}
 use Rattle.terms.proofs.Members.{in_kept}
 use Rattle.orders.specs.Orders.{Laws}
@@ -14,19 +14,11 @@ use Rattle.charts.proofs.Holding.{held_from, from_held, unheld_from}
 use Rattle.reductions.specs.Spares.{is_left, left_for}
 use Rattle.covering.specs.Floors.{is_unused, cheaper, Apart, Cheapest}
 
-and_left : (a b : Bool) → (a && b) ≡ true → a ≡ true
-and_left true b h = refl
-and_left false b h = h
-
-and_rest : (a b : Bool) → (a && b) ≡ true → b ≡ true
-and_rest true b h = h
-and_rest false b h = absurd (false≢true h)
-
 -- what all pass each passes
 each_of : (p : ℕ → Bool) (xs : List ℕ) (x : ℕ) → list_all p xs ≡ true → In x xs → p x ≡ true
 each_of p [] x h i = absurd i
-each_of p (y ∷ ys) x h (inl e) = ap p e ∙ and_left (p y) (list_all p ys) h
-each_of p (y ∷ ys) x h (inr i) = each_of p ys x (and_rest (p y) (list_all p ys) h) i
+each_of p (y ∷ ys) x h (inl e) = ap p e ∙ (and_parts (p y) (list_all p ys) h).0
+each_of p (y ∷ ys) x h (inr i) = each_of p ys x (and_parts (p y) (list_all p ys) h).1 i
 
 -- where nothing is kept nothing passes
 none_kept : (p : ℕ → Bool) (xs : List ℕ) (x : ℕ) → length (filter p xs) ≡ 0 → In x xs → p x ≡ false
@@ -48,11 +40,8 @@ left_in g b i c l h n = in_kept (is_left g b i) c (columns g) (counting_in 0 g.w
 pub apart_from : (g : Grid) (t b u : ℕ → Bool) (i : ℕ) → list_all (is_unused t u) (left_for g b i) ≡ true → Apart g t b u i
 apart_from g t b u i h c l y n =
     let w = each_of (is_unused t u) (left_for g b i) c h (left_in g b i c l y n) in
-    (free (t c) (and_left (not (t c)) (not (u c)) w), free (u c) (and_rest (not (t c)) (not (u c)) w))
-  where
-    free : (a : Bool) → not a ≡ true → a ≡ false
-    free false e = refl
-    free true e = absurd (false≢true e)
+    let both = and_parts (not (t c)) (not (u c)) w in
+    (not-true (t c) both.0, not-true (u c) both.1)
 
 -- of the columns that are left, none is cheaper
 module _ (p : Problem) (laws : Laws p.order) where
@@ -121,11 +110,11 @@ none_left_from g b i h c l y = go (b c) refl
 
 -- a column that is left for an open need is free
 pub left_free : (g : Grid) (t b : ℕ → Bool) (i c : ℕ) → is_held g t i ≡ false → c < g.width → is_left g b i c ≡ true → (t c ≡ false) × (b c ≡ false)
-left_free g t b i c unheld l h = (go (t c) refl, not-true (b c) (and_left (not (b c)) (g.held c i) h))
+left_free g t b i c unheld l h = (go (t c) refl, not-true (b c) (and_parts (not (b c)) (g.held c i) h).0)
   where
     go : (y : Bool) → t c ≡ y → t c ≡ false
     go false e = e
-    go true e = absurd (both_ways _ (unheld_from g t i unheld c l e) (and_rest (not (b c)) (g.held c i) h))
+    go true e = absurd (both_ways _ (unheld_from g t i unheld c l e) (and_parts (not (b c)) (g.held c i) h).1)
 
 -- what is used after a need: what was, and the columns that are left for it
 module _ (g : Grid) (b u v : ℕ → Bool) (i : ℕ) (few : g.width ≤ 256) (h : (c : ℕ) → c < 256 → v c ≡ (u c || (nat_lt c g.width && is_left g b i c))) where
@@ -134,11 +123,7 @@ module _ (g : Grid) (b u v : ℕ → Bool) (i : ℕ) (few : g.width ≤ 256) (h 
       h c (omega arith)
       ∙ ap (λ (x : Bool). u c || (nat_lt c g.width && x)) (ap (λ (x : Bool). not x && g.held c i) n ∙ y)
       ∙ ap (λ (x : Bool). u c || (x && true)) (lt-ltb c g.width l)
-      ∙ go (u c)
-    where
-      go : (x : Bool) → (x || true) ≡ true
-      go true = refl
-      go false = refl
+      ∙ or_right (u c) true refl
 
   pub used_keeps : ((c : ℕ) → 256 ≤ c → u c ≡ false) → (c : ℕ) → u c ≡ true → v c ≡ true
   used_keeps past c e =

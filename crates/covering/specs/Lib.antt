@@ -1,4 +1,3 @@
-pub mod Priced
 pub mod Seeking
 pub mod Floors
 pub mod Splitting

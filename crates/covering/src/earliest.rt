@@ -4,7 +4,7 @@ ghost use Rattle.charts.specs.Best.{problem};
 ghost use Rattle.fixed.specs.Sets.{member};
 ghost use Rattle.charts.specs.Sets.{Least, FirstBest};
 ghost use Rattle.reductions.specs.Trails.{taken, banned};
-ghost use Rattle.covering.specs.Priced.{Priced};
+ghost use Rattle.charts.specs.Sets.{Priced};
 ghost use Rattle.covering.specs.Splitting.{Asks};
 
 use crate::quest::Quest;

@@ -6,7 +6,7 @@ ghost use Rattle.charts.specs.Best.{problem, columns};
 ghost use Rattle.reductions.specs.Spares.{is_left, left_for};
 ghost use Rattle.reductions.specs.Trails.{taken, banned};
 ghost use Rattle.covering.specs.Floors.{is_unused, cheaper};
-ghost use Rattle.covering.specs.Priced.{Priced};
+ghost use Rattle.charts.specs.Sets.{Priced};
 ghost use Rattle.covering.specs.Seeking.{Barren};
 
 use crate::quest::Quest;

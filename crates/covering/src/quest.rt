@@ -1,13 +1,13 @@
 // What a search is after.
 ghost use Rattle.fixed.specs.Sets.{member};
 ghost use Rattle.charts.specs.Best.{problem};
-ghost use Rattle.covering.specs.Priced.{Priced};
+ghost use Rattle.charts.specs.Sets.{Priced};
 
 use charts::{Chart, Valued};
 use orders::CostOrder;
 
-// Sets of the chart's columns that cover and are better than the bound, or, unless they are to be strictly so, no worse. The fact
-// is truncated, because nothing says that totals of any kind have at most one proof of being equal.
+// Sets of the chart's columns that cover and are better than the bound, or, unless they are to be strictly so, no worse. A struct
+// and no enum around the bound: both kinds read the same value, and the definitions take the flag as a test. The fact is truncated, because nothing says that totals of any kind have at most one proof of being equal.
 #[derive(Drop)]
 pub struct Quest<'a, O: CostOrder, C: Chart> {
     pub order: &'a O,

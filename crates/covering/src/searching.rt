@@ -33,8 +33,7 @@ pub fn search<O: CostOrder, C: Chart>(order: &O, chart: &C) -> Option<Valued<O::
     let good = least(order, chart);
     let best = earliest(order, chart, &good);
     Some(Valued {
-        total: best.total,
-        size: best.size,
         set: best.set.below(chart.columns()),
+        ..best
     })
 }

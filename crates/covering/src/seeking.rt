@@ -5,7 +5,7 @@ ghost use Rattle.charts.specs.Best.{problem};
 ghost use Rattle.charts.specs.Sets.{Covers, Least};
 ghost use Rattle.reductions.specs.Goals.{Good};
 ghost use Rattle.reductions.specs.Trails.{taken, banned};
-ghost use Rattle.covering.specs.Priced.{Priced};
+ghost use Rattle.charts.specs.Sets.{Priced};
 ghost use Rattle.covering.specs.Seeking.{Ended};
 
 use crate::quest::Quest;

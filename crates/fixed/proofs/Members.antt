@@ -1,7 +1,7 @@
 -- What a set has after a number is put in or taken out, and when it is empty or full.
 use Rattle.std.proofs.Common.{◌≡◌, ℕ, zero, suc, ◌<◌, ◌≤◌, Bool, true, false, ◌||◌, eqb, List, length, get_or, set, replicate, sym, refl, ap, ◌∙◌, subst, ⊎_elim, arith, get_or-set_other, get_or-set_same}
 use Rattle.std.proofs.lemmas.Bool.{cases_eq, or_left, eq-eqb, ne_eqb}
-use Rattle.std.proofs.lemmas.List.{get_or_past}
+use Rattle.std.proofs.lemmas.List.{get_or_past, get_or-replicate}
 use Rattle.fixed.specs.declared.set.FixedSet.{FixedSet}
 use Rattle.fixed.specs.Sets.{member}
 
@@ -17,13 +17,8 @@ none_there (suc n) (suc k) = none_there n k
 pub no_member : (n : ℕ) (xs : List Bool) → xs ≡ replicate n false → (k : ℕ) → get_or xs k false ≡ false
 no_member n xs e k = ap (λ (ys : List Bool). get_or ys k false) e ∙ none_there n k
 
-all_there : (n k : ℕ) → k < n → get_or (replicate n true) k false ≡ true
-all_there zero k h = absurd (omega arith)
-all_there (suc n) zero h = refl
-all_there (suc n) (suc k) h = all_there n k (omega arith)
-
 pub every_member : (n : ℕ) (xs : List Bool) → xs ≡ replicate n true → (k : ℕ) → k < n → get_or xs k false ≡ true
-every_member n xs e k h = ap (λ (ys : List Bool). get_or ys k false) e ∙ all_there n k h
+every_member n xs e k h = ap (λ (ys : List Bool). get_or ys k false) e ∙ get_or-replicate n k true false h
 
 -- one more number
 pub put_in : (xs : List Bool) (c k : ℕ) → c < length xs → get_or (set xs c true) k false ≡ (eqb c k || get_or xs k false)

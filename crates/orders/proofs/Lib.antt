@@ -1,2 +1,3 @@
 pub mod Small
 pub mod Totalling
+pub mod Below

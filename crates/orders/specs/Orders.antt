@@ -36,6 +36,10 @@ total m (t ∷ ts) = m.join (m.price t) (total m ts)
 abbrev pub JoinsExactly : (m : Meaning) → m.Total → m.Total → m.Total → Type 0
 JoinsExactly m a b r = (ts us : List Term) → a ≡ total m ts → b ≡ total m us → length ts + length us ≤ 256 → r ≡ m.join a b
 
--- r compares a and b exactly, where they are the totals of at most 256 terms each
+-- a fact holds where a and b are the totals of at most 256 terms each
+abbrev pub OnTotals : (m : Meaning) → m.Total → m.Total → Type 0 → Type 0
+OnTotals m a b P = (ts us : List Term) → a ≡ total m ts → b ≡ total m us → length ts ≤ 256 → length us ≤ 256 → P
+
+-- r compares a and b exactly, where they are such totals
 abbrev pub ComparesExactly : (m : Meaning) → m.Total → m.Total → Bool → Type 0
-ComparesExactly m a b r = (ts us : List Term) → a ≡ total m ts → b ≡ total m us → length ts ≤ 256 → length us ≤ 256 → r ≡ m.at_most a b
+ComparesExactly m a b r = OnTotals m a b (r ≡ m.at_most a b)

@@ -1,4 +1,5 @@
-// Which columns hold a need.
+// Which columns hold a need. The chart, what is left out and the need stay three parameters, here and in what asks about columns:
+// a struct of the two references would lengthen every clause, and be no plainer.
 ghost use Rattle.std.specs.Prelude.{◌≡◌, ◌<◌, ◌==◌, true, not, filter, IfSome};
 ghost use Rattle.std.specs.List.{list_any};
 ghost use Rattle.fixed.specs.Sets.{member};

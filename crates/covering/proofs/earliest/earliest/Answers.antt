@@ -1,8 +1,8 @@
-use Rattle.std.proofs.Common.{◌≡◌, suc, ◌<◌, sym, subst, add-one, arith}
+use Rattle.std.proofs.Common.{suc, ◌<◌, sym, subst, add-one, arith}
 use Rattle.charts.specs.Sets.{ColumnSet}
 use Rattle.charts.specs.Best.{problem}
 use Rattle.fixed.specs.Sets.{member}
-use Rattle.charts.specs.Sets.{cost, size, Least, Settled}
+use Rattle.charts.specs.Sets.{Least, Settled}
 use Rattle.reductions.specs.Trails.{taken, banned}
 use Rattle.covering.proofs.Settling.{settled_found, settled_none_found, asks_apart}
 use Rattle.covering.proofs.earliest.earliest.Goals as goal
@@ -41,8 +41,5 @@ loop-j-preserved g c =
     let w = settled_found p (o.laws me) s (taken n) (banned n) j lt c.split.ensures (member c.in-Some.set) inv.0 inv.1 c.in-Some.ensures in (
       subst (λ (x : ColumnSet). Least p (member x)) e w.0,
       rw add-one (subst (λ (x : ColumnSet). Settled p (member x) (suc j)) e w.1),
-      record {
-        total = subst (λ (x : ColumnSet). o.exact me v.result.total ≡ cost p (member x)) e v.ensures.total;
-        size = subst (λ (x : ColumnSet). v.result.size ≡ size m (member x)) e v.ensures.size;
-      },
+      v.ensures.priced,
     )

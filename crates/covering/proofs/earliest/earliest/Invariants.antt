@@ -1,7 +1,7 @@
 use Rattle.charts.specs.Best.{problem}
 use Rattle.fixed.specs.Sets.{member}
 use Rattle.charts.specs.Sets.{Least, Settled}
-use Rattle.covering.specs.Priced.{Priced}
+use Rattle.charts.specs.Sets.{Priced}
 use Rattle.covering.proofs.earliest.earliest.Given as goal
 
 abbrev pub invariant-loop-j : goal.invariant-loop-j

@@ -2,7 +2,7 @@ use Rattle.std.proofs.Common.{◌≡◌, ℕ, false, sym, refl, ◌∙◌, subst
 use Rattle.charts.specs.Sets.{ColumnSet}
 use Rattle.charts.specs.Best.{problem}
 use Rattle.fixed.specs.Sets.{member}
-use Rattle.charts.specs.Sets.{Covers, cost, size, Least}
+use Rattle.charts.specs.Sets.{Covers, Least}
 use Rattle.fixed.proofs.Members.{no_member, every_member}
 use Rattle.reductions.specs.declared.node.Node.{Node}
 use Rattle.reductions.specs.Trails.{taken, banned}
@@ -19,10 +19,7 @@ loop-set-init g c =
     let v = c.value_of-best in
     let e = sym v.ensures.set in (
       subst (λ (x : ColumnSet). Covers m (member x)) e (λ i l. let w = c.requires i l in let k = w.1 in (w.0, w.1, every_member 256 c.all.result.on c.all.ensures w.0 (omega arith), w.3)),
-      record {
-        total = subst (λ (x : ColumnSet). o.exact me v.result.total ≡ cost p (member x)) e v.ensures.total;
-        size = subst (λ (x : ColumnSet). v.result.size ≡ size m (member x)) e v.ensures.size;
-      },
+      v.ensures.priced,
       chasing_start p (o.laws me) c.new-trail.result.root (member v.result.set) c.new-trail.result refl c.new-trail.ensures.steps,
     )
 
@@ -62,10 +59,7 @@ returns-then-not-back_up g c =
           (subst (λ (n : Node). (k : ℕ) → taken n k ≡ false) r (no_member 256 c.none.result.on c.none.ensures))
           (subst (λ (n : Node). (k : ℕ) → banned n k ≡ false) r (no_member 256 c.none-2.result.on c.none-2.ensures))
           ended.1 (sym c.if-not-back_up.ensures.owed));
-      value = record {
-        total = subst (λ (x : ColumnSet). o.exact me v.result.total ≡ cost p (member x)) e v.ensures.total;
-        size = subst (λ (x : ColumnSet). v.result.size ≡ size m (member x)) e v.ensures.size;
-      };
+      value = v.ensures.priced;
     }
 
 pub loop-set-smaller : goal.loop-set-smaller
@@ -93,10 +87,7 @@ loop-set-preserved g c =
     let e = sym v.ensures.set in
     let f : w.node.taken ≡ v.result.set = sym ended.3 ∙ e in (
       subst (λ (x : ColumnSet). Covers m (member x)) f ended.1,
-      record {
-        total = subst (λ (x : ColumnSet). o.exact me v.result.total ≡ cost p (member x)) e v.ensures.total;
-        size = subst (λ (x : ColumnSet). v.result.size ≡ size m (member x)) e v.ensures.size;
-      },
+      v.ensures.priced,
       subst (λ (x : ColumnSet). Chasing p (o.laws me) root (member x) c.back_up.new.self) f
           (chasing_on p (o.laws me) root (member c.loop-set.best.set) c.loop-set.trail w inv.2 ended.0 ended.2 c.back_up.new.self back.root back.steps (sym back.owed)),
     )

@@ -3,7 +3,7 @@ use Rattle.fixed.specs.Sets.{member}
 use Rattle.charts.specs.Sets.{Covers}
 use Rattle.reductions.specs.Goals.{turns}
 use Rattle.reductions.specs.Trails.{steps_of}
-use Rattle.covering.specs.Priced.{Priced}
+use Rattle.charts.specs.Sets.{Priced}
 use Rattle.covering.proofs.Walking.{Chasing}
 use Rattle.covering.proofs.seeking.least.Given as goal
 
