@@ -44,9 +44,7 @@ impl Chart for PrimeChart {
     }
 
     fn holds(&self, column: usize, need: usize) -> bool {
-        let term = self.term(column);
-        let rows = self.need(need);
-        term.holds(rows.low) && term.holds(rows.high)
+        self.need(need).is_met_by(self.term(column))
     }
 
     fn price<O: CostOrder>(&self, order: &O, column: usize) -> O::Total {

@@ -3,7 +3,7 @@ use Rattle.std.proofs.Common.{◌≡◌, ℕ, zero, suc, ◌+◌, ◌*◌, ◌/�
 use native.Mathlib.Nat.{div-div-eq-div-mul, pow-succ', add-mul, mul_comm, mul_assoc, mul-one}
 use Rattle.std.specs.List.{range_with_len, sum_by}
 use Rattle.std.proofs.lemmas.List.Sums.{sum_by-cons}
-use Rattle.primes.specs.Cubes.{Digit, free, low, high, dig, cube_of, read_bit, level_bit, mask_in, levels_in}
+use Rattle.primes.specs.Cubes.{Digit, free, low, high, dig, cube_of, level_bit, levels_in, byte_in, mask_of_lt}
 use Rattle.primes.proofs.Cube.{val, num, imp}
 use Rattle.primes.proofs.CubeBytes.{level_lt}
 use Rattle.primes.proofs.CubeLaws.{cube_of_num, num_cube_of, length_cube_of, num_lt, num_set, imp_split}
@@ -71,31 +71,45 @@ full_at n x f h =
     imp_full (cube_of n x) f (λ i k e. let m : i < n = omega (arith, length_cube_of n x) in h i m (dig_free (x / 3 ^ i % 3) (sym (get_or_cube_of n i x m) ∙ e)))
 
 -- ---- the mask and the levels, bit by bit
-module _ (b : Digit → ℕ) (v : List Digit → ℕ) (none : v [] ≡ 0) (more : (d : Digit) (ds : List Digit) → v (d ∷ ds) ≡ b d + 2 * v ds) where
-  one_place : (d w p : ℕ) → d * p + w * (2 * p) ≡ (d + 2 * w) * p
-  one_place d w p = sym (add-mul d (2 * w) p ∙ ap (λ (k : ℕ). d * p + k) (ap (λ (k : ℕ). k * p) (mul_comm 2 w) ∙ mul_assoc w 2 p))
+-- a digit halved, as it is or with one more
+half_digit : (p d : ℕ) (ds : List Digit) → p ≤ 1 → d < 3 → byte_in p (dig d ∷ ds) ≡ (d + p) / 2 + 2 * byte_in p ds
+half_digit zero zero ds h k = refl
+half_digit zero (suc zero) ds h k = refl
+half_digit zero (suc (suc zero)) ds h k = refl
+half_digit (suc zero) zero ds h k = refl
+half_digit (suc zero) (suc zero) ds h k = refl
+half_digit (suc zero) (suc (suc zero)) ds h k = refl
+half_digit zero (suc (suc (suc d))) ds h k = absurd (omega arith)
+half_digit (suc zero) (suc (suc (suc d))) ds h k = absurd (omega arith)
+half_digit (suc (suc p)) d ds h k = absurd (omega arith)
 
-  places : (x a n : ℕ) → sum_by (λ i. b (dig (x / 3 ^ i % 3)) * 2 ^ i) (range_with_len a n) ≡ v (cube_of n (x / 3 ^ a)) * 2 ^ a
-  places x a zero = sym (ap (λ (k : ℕ). k * 2 ^ a) none ∙ zero-mul (2 ^ a))
+byte_none : (p : ℕ) → byte_in p [] ≡ 0
+byte_none zero = refl
+byte_none (suc p) = refl
+
+module _ (p : ℕ) (h : p ≤ 1) where
+  one_place : (d w k : ℕ) → d * k + w * (2 * k) ≡ (d + 2 * w) * k
+  one_place d w k = sym (add-mul d (2 * w) k ∙ ap (λ (j : ℕ). d * k + j) (ap (λ (j : ℕ). j * k) (mul_comm 2 w) ∙ mul_assoc w 2 k))
+
+  places : (x a n : ℕ) → sum_by (λ i. (x / 3 ^ i % 3 + p) / 2 * 2 ^ i) (range_with_len a n) ≡ byte_in p (cube_of n (x / 3 ^ a)) * 2 ^ a
+  places x a zero = sym (ap (λ (k : ℕ). k * 2 ^ a) (byte_none p) ∙ zero-mul (2 ^ a))
   places x a (suc n) =
-      let h : ℕ → ℕ = λ i. b (dig (x / 3 ^ i % 3)) * 2 ^ i in
-      let d : ℕ = b (dig (x / 3 ^ a % 3)) in
-      let w : ℕ = v (cube_of n (x / 3 ^ a / 3)) in
+      let f : ℕ → ℕ = λ i. (x / 3 ^ i % 3 + p) / 2 * 2 ^ i in
+      let d : ℕ = (x / 3 ^ a % 3 + p) / 2 in
+      let w : ℕ = byte_in p (cube_of n (x / 3 ^ a / 3)) in
       let next : x / 3 ^ (a + 1) ≡ x / 3 ^ a / 3 = ap (λ (k : ℕ). x / 3 ^ k) (add-one a) ∙ sym (div_suc x a) in
       let twice : 2 ^ (a + 1) ≡ 2 * 2 ^ a = ap (λ (k : ℕ). 2 ^ k) (add-one a) ∙ pow-suc 2 a ∙ mul_comm (2 ^ a) 2 in
-      sum_by-cons h a (range_with_len (a + 1) n)
-      ∙ ap (λ (k : ℕ). d * 2 ^ a + k) (places x (a + 1) n ∙ ap₂ (λ (y k : ℕ). v (cube_of n y) * k) next twice)
+      sum_by-cons f a (range_with_len (a + 1) n)
+      ∙ ap (λ (k : ℕ). d * 2 ^ a + k) (places x (a + 1) n ∙ ap₂ (λ (y k : ℕ). byte_in p (cube_of n y) * k) next twice)
       ∙ one_place d w (2 ^ a)
-      ∙ ap (λ (k : ℕ). k * 2 ^ a) (sym (more (dig (x / 3 ^ a % 3)) (cube_of n (x / 3 ^ a / 3))))
+      ∙ ap (λ (k : ℕ). k * 2 ^ a) (sym (half_digit p (x / 3 ^ a % 3) (cube_of n (x / 3 ^ a / 3)) h (omega arith)))
 
-  all_places : (x n : ℕ) → sum_by (λ i. b (dig (x / 3 ^ i % 3)) * 2 ^ i) (range_with_len 0 n) ≡ v (cube_of n x)
-  all_places x n = let e : x / 1 ≡ x = omega arith in places x 0 n ∙ ap (λ (y : ℕ). v (cube_of n y) * 1) e ∙ mul-one (v (cube_of n x))
+  pub byte_by_bits : (x n : ℕ) → sum_by (λ i. (x / 3 ^ i % 3 + p) / 2 * 2 ^ i) (range_with_len 0 n) ≡ byte_in p (cube_of n x)
+  byte_by_bits x n = let e : x / 1 ≡ x = omega arith in places x 0 n ∙ ap (λ (y : ℕ). byte_in p (cube_of n y) * 1) e ∙ mul-one (byte_in p (cube_of n x))
 
-pub mask_by_bits : (x n : ℕ) → sum_by (λ i. read_bit (dig (x / 3 ^ i % 3)) * 2 ^ i) (range_with_len 0 n) ≡ mask_in (cube_of n x)
-mask_by_bits = all_places read_bit mask_in refl (λ d ds. refl)
-
-pub levels_by_bits : (x n : ℕ) → sum_by (λ i. level_bit (dig (x / 3 ^ i % 3)) * 2 ^ i) (range_with_len 0 n) ≡ levels_in (cube_of n x)
-levels_by_bits = all_places level_bit levels_in refl (λ d ds. refl)
+pub byte_lt : (p n x : ℕ) → byte_in p (cube_of n x) < 2 ^ n
+byte_lt zero n x = levels_lt n x
+byte_lt (suc p) n x = mask_of_lt n x
 
 -- a number of n inputs has the same levels read as one of more
 pub levels_same : (m n x : ℕ) → n ≤ m → x < 3 ^ n → levels_in (cube_of m x) ≡ levels_in (cube_of n x)

@@ -41,6 +41,11 @@ abbrev pub levels_in : List Digit → ℕ
 levels_in [] = 0
 levels_in (d ∷ ds) = level_bit d + 2 * levels_in ds
 
+-- the byte that the halved digits make: as they are, the levels; each with one more, the mask
+abbrev pub byte_in : ℕ → List Digit → ℕ
+byte_in zero ds = levels_in ds
+byte_in (suc p) ds = mask_in ds
+
 low_half : (d a : ℕ) → d < 2 → (d + 2 * a) / 2 ≡ a
 low_half d a h = omega arith
 

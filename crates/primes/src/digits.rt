@@ -1,6 +1,6 @@
 // The digits of a term's number in base three: what the term asks of each input.
-ghost use Rattle.std.specs.Prelude.{◌≡◌, ℕ, ◌*◌, ◌/◌, ◌%◌, ◌^◌, ◌<◌, ◌≤◌, MatchOption, ◌≢◌};
-ghost use Rattle.primes.specs.Cubes.{cube_of, dig, level_bit, levels_in, mask_in, read_bit, term_of};
+ghost use Rattle.std.specs.Prelude.{◌≡◌, ℕ, ◌+◌, ◌*◌, ◌/◌, ◌%◌, ◌^◌, ◌<◌, ◌≤◌, MatchOption, ◌≢◌};
+ghost use Rattle.primes.specs.Cubes.{byte_in, cube_of, term_of};
 
 use terms::Term;
 
@@ -30,34 +30,21 @@ pub(crate) fn unread(x: usize, n: usize) -> Option<usize>
     (0..n).find(|i| digit(x, *i) == 0)
 }
 
-// The mask of a number's term: bit i says that input i is read.
-fn mask_at(x: usize) -> usize
-    ensures { result ≡ mask_in (cube_of 8 x) }
+// A byte of a number's term, by the bits of its digits: the levels, or with 1 added to each digit the mask.
+pub(crate) fn byte_at(x: usize, plus: usize) -> usize
+    requires { plus ≤ 1 }
+    ensures { result ≡ byte_in plus (cube_of 8 x) }
 {
-    (0..8).map(|i| mask_bit(x, i)).sum()
+    (0..8).map(|i| bit_at(x, i, plus)).sum()
 }
 
-// The levels of a number's term: bit i is the level that is wanted of input i.
-pub(crate) fn levels_at(x: usize) -> usize
-    ensures { result ≡ levels_in (cube_of 8 x) }
+// Bit i of that byte, in its place: half the digit, or half of one more.
+fn bit_at(x: usize, i: usize, plus: usize) -> usize
+    requires input { i < 8 }
+    requires bit { plus ≤ 1 }
+    ensures { result ≡ (x / 3 ^ i % 3 + plus) / 2 * 2 ^ i }
 {
-    (0..8).map(|i| level_bit(x, i)).sum()
-}
-
-// Bit i of the mask, in its place.
-fn mask_bit(x: usize, i: usize) -> usize
-    requires { i < 8 }
-    ensures { result ≡ read_bit (dig (x / 3 ^ i % 3)) * 2 ^ i }
-{
-    (digit(x, i) + 1) / 2 << i
-}
-
-// Bit i of the levels, in its place.
-fn level_bit(x: usize, i: usize) -> usize
-    requires { i < 8 }
-    ensures { result ≡ level_bit (dig (x / 3 ^ i % 3)) * 2 ^ i }
-{
-    digit(x, i) / 2 << i
+    (digit(x, i) + plus) / 2 << i
 }
 
 // The term of a number.
@@ -65,7 +52,7 @@ pub(crate) fn term_at(x: usize) -> Term
     ensures { result ≡ term_of x }
 {
     Term {
-        mask: mask_at(x) as u8,
-        levels: levels_at(x) as u8,
+        mask: byte_at(x, 1) as u8,
+        levels: byte_at(x, 0) as u8,
     }
 }

@@ -5,7 +5,6 @@ ghost use Rattle.primes.specs.Records.{fresh, record_of, terms_in, record_meets,
 
 use crate::need::{Need, NeedList};
 use crate::prime::{Prime, PrimeList};
-use crate::records::holds_need;
 
 // Notes in each record whether the prime is essential for the needs. A loop, since each need may change a record.
 pub(crate) fn mark_essentials(list: &mut PrimeList, needs: &NeedList)
@@ -41,5 +40,5 @@ fn sole_holder(primes: &[Prime], need: Need) -> Option<usize>
 fn first_holder(primes: &[Prime], need: Need) -> Option<usize>
     ensures { result ≡ position (record_meets need) primes.now }
 {
-    primes.iter().position(|prime| holds_need(prime.term, need))
+    primes.iter().position(|prime| need.is_met_by(prime.term))
 }

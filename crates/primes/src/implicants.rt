@@ -4,7 +4,7 @@ ghost use Rattle.fixed.specs.Sets.{member};
 ghost use Rattle.sources.specs.Sources.{off_at};
 ghost use Rattle.primes.specs.Primes.{implicant_at};
 
-use crate::digits::{levels_at, power, unread};
+use crate::digits::{byte_at, power, unread};
 use fixed::FixedSet;
 use sources::Source;
 
@@ -37,7 +37,7 @@ fn judge<S: Source>(source: &S, found: &Numbers, x: usize) -> bool
             let step = power(i);
             found.contains(x + step) && found.contains(x + 2 * step)
         }
-        None => may_hold(source, levels_at(x)),
+        None => may_hold(source, byte_at(x, 0)),
     }
 }
 

@@ -1,6 +1,7 @@
 // Listing the primes of a source.
-ghost use Rattle.std.specs.Prelude.{◌≡◌, ◌<◌, map, length, MatchOption};
+ghost use Rattle.std.specs.Prelude.{◌≡◌, ◌<◌, map, length, MatchResult};
 ghost use Rattle.fixed.specs.Lists.{entries};
+ghost use Rattle.terms.specs.declared.refusal.Refusal.TheVariants.{TooManyPrimes};
 ghost use Rattle.primes.specs.Primes.{primes};
 ghost use Rattle.primes.specs.PrimeLaws.{PrimesListed, PrimesRising};
 ghost use Rattle.primes.specs.Records.{fresh, records, primes_break};
@@ -18,8 +19,8 @@ use terms::Refusal;
 
 // The primes in rising number, with their needs counted, unless there are more than 256: every implicant is tried, and the
 // trial ends at the first input that can be dropped. A labelled loop, since that input ends the trial of its term.
-fn find_primes<S: Source>(source: &S, needs: &NeedList) -> Option<PrimeList>
-    ensures { MatchOption result (256 < length (primes (S.Source.meaning source.now))) (λ list. entries list ≡ map (fresh (entries needs.now)) (primes (S.Source.meaning source.now))) }
+fn find_primes<S: Source>(source: &S, needs: &NeedList) -> Result<PrimeList, Refusal>
+    ensures { MatchResult result (λ list. entries list ≡ map (fresh (entries needs.now)) (primes (S.Source.meaning source.now))) (λ e. (e ≡ TooManyPrimes) × (256 < length (primes (S.Source.meaning source.now)))) }
 {
     let n = source.inputs();
     let found = judge_all(source);
@@ -32,10 +33,10 @@ fn find_primes<S: Source>(source: &S, needs: &NeedList) -> Option<PrimeList>
                     continue 'terms;
                 }
             }
-            push(&mut list, x, needs).ok()?;
+            push(&mut list, x, needs).map_err(|_| Refusal::TooManyPrimes)?;
         }
     }
-    Some(list)
+    Ok(list)
 }
 
 // Fills the list with the primes of a source, the earliest first, and notes of each how many needs of the work it holds and
@@ -47,7 +48,7 @@ pub fn primes<S: Source>(source: &S, work: Work, list: &mut PrimeList) -> Result
     ensures rising { PrimesRising }
 {
     let needs = list_needs(source, work);
-    let mut found = find_primes(source, &needs).ok_or(Refusal::TooManyPrimes)?;
+    let mut found = find_primes(source, &needs)?;
     mark_essentials(&mut found, &needs);
     *list = found;
     Ok(())

@@ -2,11 +2,10 @@
 ghost use Rattle.std.specs.Prelude.{◌≡◌, false, length, is_ok, nat_lt};
 ghost use Rattle.fixed.specs.Lists.{entries, pushed};
 ghost use Rattle.primes.specs.Cubes.{term_of};
-ghost use Rattle.primes.specs.Needs.{meets};
 ghost use Rattle.primes.specs.Records.{held};
 
 use crate::digits::term_at;
-use crate::need::{Need, NeedList};
+use crate::need::NeedList;
 use crate::prime::{Prime, PrimeList};
 use fixed::list::Full;
 use terms::Term;
@@ -40,13 +39,6 @@ fn needs_held(term: Term, needs: &NeedList) -> usize
     needs
         .as_slice()
         .iter()
-        .filter(|need| holds_need(term, **need))
+        .filter(|need| need.is_met_by(term))
         .count()
-}
-
-// Whether a term holds a need: both its rows.
-pub(crate) fn holds_need(term: Term, need: Need) -> bool
-    ensures { result ≡ meets term need }
-{
-    term.holds(need.low) && term.holds(need.high)
 }

@@ -27,4 +27,4 @@ pub returns-in-None : goal.returns-in-None
 returns-in-None g c =
     c.may_hold.ensures
     ∙ sym (judged_row (g.S.Source.meaning c.args.source.now) (g.met.S.Source.proper c.args.source.now).few c.args.x c.requires.number c.args.found.now c.requires.later c.inputs.result c.inputs.ensures
-    c.levels_at.result c.levels_at.ensures c.in-None.ensures)
+    c.byte_at.result c.byte_at.ensures c.in-None.ensures)

@@ -1,14 +1,15 @@
-use Rattle.std.proofs.Common.{◌≡◌, ℕ, ◌+◌, ◌^◌, ◌<◌, ◌≤◌, true, false, List, length, is_ok, sym, ◌∙◌, subst, arith, rules}
+use Rattle.std.proofs.Common.{◌≡◌, ℕ, ◌+◌, ◌^◌, ◌<◌, ◌≤◌, true, false, List, length, Err, is_ok, sym, refl, ◌∙◌, subst, arith, rules}
 use Rattle.std.proofs.lemmas.Bool.{ltb-true, ltb-false}
 use Rattle.fixed.specs.declared.list.FixedList.{FixedList}
 use Rattle.fixed.specs.declared.set.FixedSet.{FixedSet}
 use Rattle.fixed.specs.Lists.{entries}
 use Rattle.terms.specs.Tables.{Table}
+use Rattle.terms.specs.declared.refusal.Refusal.TheVariants.{TooManyPrimes}
 use Rattle.primes.specs.declared.need.Need.{Need}
 use Rattle.primes.specs.declared.prime.Prime.{Prime}
 use Rattle.primes.proofs.Gathering.{Trying, Gathered, skipped, dropped, stand_read, stand_unread, passed, gathered_push, gathered_full, gathered_all}
 use Rattle.primes.proofs.listing.find_primes.Goals as goal
-use Rattle.primes.proofs.listing.find_primes.Goals.{else-d-ne0-via-then-d-ne0+else-contains-2, else-d-ne0-via-else-d-ne0, then-contains+else-loop-i-test+in_ok-ok, else-contains}
+use Rattle.primes.proofs.listing.find_primes.Goals.{else-d-ne0-via-then-d-ne0+else-contains-2, else-d-ne0-via-else-d-ne0, then-contains+else-loop-i-test+in_ok-map_err, else-contains}
 
 pub terms-preserved-then-contains-2 : goal.terms-preserved-then-contains-2
 terms-preserved-then-contains-2 g c =
@@ -37,8 +38,8 @@ loop-i-preserved g c =
           stand_unread tb n found t x h c.loop-i.i c.loop-i-test.true (sym c.digit-d.ensures ∙ w.if-d-ne0.false) c.loop-i.invariant
     ]
 
-pub returns-in_err-ok : goal.returns-in_err-ok
-returns-in_err-ok g c =
+pub returns-in_err-map_err : goal.returns-in_err-map_err
+returns-in_err-map_err g c =
     let tb : Table = g.S.Source.meaning c.args.source.now in
     let n : ℕ = c.inputs-n.result in
     let found : FixedSet 6561 = c.judge_all-found.result in
@@ -48,7 +49,8 @@ returns-in_err-ok g c =
     let prime = passed tb n found t x h c.loop-i.i (sym c.if-contains.ensures) (omega arith) (omega arith) c.loop-i.invariant in
     let no : is_ok c.push.result ≡ false = search rules in
     let full : 256 ≤ length (entries c.terms.list) = ltb-false (length (entries c.terms.list)) 256 (sym c.push.ensures.room ∙ no) in
-    rw c.from_residual.ensures (gathered_full tb n found t x h (entries c.args.needs.now) c.terms.list prime full c.terms.invariant)
+    let is : c.from_residual.result ≡ Err TooManyPrimes = search rules in
+    rw is (refl, gathered_full tb n found t x h (entries c.args.needs.now) c.terms.list prime full c.terms.invariant)
 
 pub terms-preserved : goal.terms-preserved
 terms-preserved g c =
@@ -60,7 +62,7 @@ terms-preserved g c =
     let h : x < 3 ^ n = omega arith in
     let ds : List Need = entries c.args.needs.now in
     elim c.if-contains.branch [
-      | then-contains+else-loop-i-test+in_ok-ok w ↦
+      | then-contains+else-loop-i-test+in_ok-map_err w ↦
           let prime = passed tb n found t x h w.loop-i.i (sym w.if-contains.ensures) (omega arith) (omega arith) w.loop-i.invariant in
           let yes : is_ok w.push.result ≡ true = search rules in
           let room : length (entries c.terms.list) < 256 = ltb-true (length (entries c.terms.list)) 256 (sym w.push.ensures.room ∙ yes) in

@@ -1,5 +1,5 @@
-use Rattle.std.proofs.Common.{◌≡◌, List, Some, map, sym, ap, ◌∙◌, ap₂, rules}
-use Rattle.std.proofs.lemmas.Option.{MatchOption-at_some}
+use Rattle.std.proofs.Common.{◌≡◌, List, Ok, map, sym, ap, ◌∙◌, ap₂, rules}
+use Rattle.std.proofs.lemmas.Result.{MatchResult-at_ok}
 use Rattle.fixed.specs.Lists.{entries}
 use Rattle.terms.specs.declared.term.Term.{Term}
 use Rattle.terms.specs.Tables.{Table}
@@ -20,16 +20,16 @@ pub mark_essentials-requires : goal.mark_essentials-requires
 mark_essentials-requires g c =
     let tb : Table = g.S.Source.meaning c.args.source.now in
     let ds : List Need = entries c.list_needs-needs.result in
-    let is : c.find_primes.result ≡ Some c.in_ok-found.found = search rules in
-    let e : entries c.in_ok-found.found ≡ map (fresh ds) (primes tb) = MatchOption-at_some _ _ c.in_ok-found.found is c.find_primes.ensures in
+    let is : c.find_primes.result ≡ Ok c.in_ok-found.found = search rules in
+    let e : entries c.in_ok-found.found ≡ map (fresh ds) (primes tb) = MatchResult-at_ok _ _ c.in_ok-found.found is c.find_primes.ensures in
     e ∙ ap (map (fresh ds)) (sym (terms_found ds (primes tb) c.in_ok-found.found e))
 
 pub returns-clause-table : goal.returns-clause-table
 returns-clause-table g c =
     let tb : Table = g.S.Source.meaning c.args.source.now in
     let ds : List Need = entries c.list_needs-needs.result in
-    let is : c.find_primes.result ≡ Some c.in_ok-found.found = search rules in
-    let e : entries c.in_ok-found.found ≡ map (fresh ds) (primes tb) = MatchOption-at_some _ _ c.in_ok-found.found is c.find_primes.ensures in
+    let is : c.find_primes.result ≡ Ok c.in_ok-found.found = search rules in
+    let e : entries c.in_ok-found.found ≡ map (fresh ds) (primes tb) = MatchResult-at_ok _ _ c.in_ok-found.found is c.find_primes.ensures in
     let t : terms_in c.in_ok-found.found ≡ primes tb = terms_found ds (primes tb) c.in_ok-found.found e in
     rw (few_enough tb (primes_fit ds (primes tb) c.in_ok-found.found e))
     (c.mark_essentials.ensures ∙ ap₂ (λ (ps : List Term) (es : List Need). map (record_of ps es) ps) t c.list_needs-needs.ensures)
