@@ -38,7 +38,11 @@ pub record Trying (tb : Table) (n : ℕ) (found : FixedSet 6561) : Type 0 where
   pub same : n ≡ tb.inputs
   pub right : (y : ℕ) → y < 3 ^ tb.inputs → member found y ≡ implicant_at tb y
 
-module _ (tb : Table) (n : ℕ) (found : FixedSet 6561) (t : Trying tb n found) where
+pub trying : {tb : Table} {n : ℕ} → tb.inputs ≤ 8 → n ≡ tb.inputs → (found : FixedSet 6561)
+    → ((y : ℕ) → y < 3 ^ tb.inputs → member found y ≡ implicant_at tb y) → Trying tb n found
+trying few same found right = record { few = few; same = same; right = right }
+
+module _ {tb : Table} {n : ℕ} {found : FixedSet 6561} (t : Trying tb n found) where
   few : n ≤ 8
   few = subst (λ (k : ℕ). k ≤ 8) (sym t.same) t.few
 
@@ -47,7 +51,7 @@ module _ (tb : Table) (n : ℕ) (found : FixedSet 6561) (t : Trying tb n found) 
       let l : y < 3 ^ tb.inputs = subst (λ (j : ℕ). y < 3 ^ j) t.same k in
       t.right y l ∙ implicant_at_lem tb y t.few l ∙ ap (λ (j : ℕ). imp (cube_of j y) (allowed tb)) (sym t.same)
 
-  module _ (x : ℕ) (h : x < 3 ^ n) where
+  module _ {x : ℕ} (h : x < 3 ^ n) where
     small : x < 6561
     small = let p = pow3_le n few in omega arith
 

@@ -14,10 +14,10 @@ use Rattle.primes.proofs.BaseThree.{pow3_pos, split_at, levels_lt, levels_same, 
 use Rattle.primes.proofs.CubeTerms.{implicant_at_lem, pow3_le}
 
 -- ---- the term of a number, where the set is right for the later ones
-module _ (tb : Table) (few : tb.inputs ≤ 8) (x : ℕ) (h : x < 3 ^ tb.inputs) (found : FixedSet 6561)
-    (later : (y : ℕ) → x < y → y < 3 ^ tb.inputs → member found y ≡ implicant_at tb y) (n : ℕ) (same : n ≡ tb.inputs) where
+module _ (tb : Table) (few : tb.inputs ≤ 8) {x : ℕ} (h : x < 3 ^ tb.inputs) (found : FixedSet 6561)
+    (later : (y : ℕ) → x < y → y < 3 ^ tb.inputs → member found y ≡ implicant_at tb y) {n : ℕ} (same : n ≡ tb.inputs) where
   -- a term that leaves an input unread, by the two that read it too
-  module _ (i p : ℕ) (e : p ≡ 3 ^ i) (d : (i < n) × (x / 3 ^ i % 3 ≡ 0)) where
+  module _ {i p : ℕ} (e : p ≡ 3 ^ i) (d : (i < n) × (x / 3 ^ i % 3 ≡ 0)) where
     split : (x + 2 * 3 ^ i < 3 ^ tb.inputs)
         × (imp (cube_of tb.inputs x) (allowed tb) ≡ (imp (cube_of tb.inputs (x + 3 ^ i)) (allowed tb) && imp (cube_of tb.inputs (x + 2 * 3 ^ i)) (allowed tb)))
     split = split_at tb.inputs i x (allowed tb) (subst (λ (k : ℕ). i < k) same d.0) h d.1
@@ -37,8 +37,8 @@ module _ (tb : Table) (few : tb.inputs ≤ 8) (x : ℕ) (h : x < 3 ^ tb.inputs) 
         ∙ ap (λ (q : ℕ). member found (x + q) && member found (x + 2 * q)) (sym e)
 
   -- a term that reads every input, by its row
-  pub judged_row : (row : ℕ) → row ≡ levels_in (cube_of 8 x) → ((k : ℕ) → k < n → x / 3 ^ k % 3 ≡ 0 → ⊥) → implicant_at tb x ≡ not (off_at tb row)
-  judged_row row e full =
+  pub judged_row : {row : ℕ} → row ≡ levels_in (cube_of 8 x) → ((k : ℕ) → k < n → x / 3 ^ k % 3 ≡ 0 → ⊥) → implicant_at tb x ≡ not (off_at tb row)
+  judged_row {row} e full =
       let r : row ≡ levels_in (cube_of tb.inputs x) = e ∙ levels_same 8 tb.inputs x few h in
       let l = levels_lt tb.inputs x in
       implicant_at_lem tb x few h ∙ full_at tb.inputs x (allowed tb) (λ k a. full k (omega arith)) ∙ ap (allowed tb) (sym r)

@@ -42,8 +42,8 @@ module _ (tb : Table) where
       ∙ ap (take 1280) (append_assoc old (filter p xs) (filter p ys) ∙ ap (λ (zs : List Need). old ++ zs) (sym (filter-append p xs ys)))
 
   -- one block of candidates more
-  pub added_more : (old now new xs ys zs : List Need) → now ≡ added tb old xs → new ≡ added tb now ys → zs ≡ xs ++ ys → new ≡ added tb old zs
-  added_more old now new xs ys zs e q h =
+  pub added_more : (old xs ys : List Need) {now new zs : List Need} → now ≡ added tb old xs → new ≡ added tb now ys → zs ≡ xs ++ ys → new ≡ added tb old zs
+  added_more old xs ys e q h =
       q ∙ ap (λ (ws : List Need). added tb ws ys) e ∙ added_twice old xs ys ∙ ap (added tb old) (sym h)
 
 -- ---- the candidates so far

@@ -4,6 +4,7 @@ ghost use Rattle.primes.specs.Cubes.{byte_in, cube_of, term_of};
 
 use terms::Term;
 
+// A table: 3usize.pow would multiply anew at each digit.
 const POWERS: [usize; 9] = [1, 3, 9, 27, 81, 243, 729, 2187, 6561];
 
 // 3^i: how much a contact of input i adds to a term's number at level 0.
@@ -15,6 +16,7 @@ pub(crate) fn power(i: usize) -> usize
 }
 
 // What the term of a number asks of input i: 0 for nothing, 1 for level 0, 2 for level 1.
+// The number and the input go together, here and in `bit_at`: a struct of the two would be made for each call, and is no plainer.
 pub(crate) fn digit(x: usize, i: usize) -> usize
     requires { i ≤ 8 }
     ensures { result ≡ x / 3 ^ i % 3 }

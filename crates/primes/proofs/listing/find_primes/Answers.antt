@@ -1,82 +1,61 @@
-use Rattle.std.proofs.Common.{◌≡◌, ℕ, ◌+◌, ◌^◌, ◌<◌, ◌≤◌, true, false, List, length, Err, is_ok, sym, refl, ◌∙◌, subst, arith, rules}
+use Rattle.std.proofs.Common.{◌≡◌, ◌+◌, ◌^◌, ◌<◌, ◌≤◌, true, false, List, length, Err, is_ok, sym, refl, ◌∙◌, subst, arith, rules}
 use Rattle.std.proofs.lemmas.Bool.{ltb-true, ltb-false}
 use Rattle.fixed.specs.declared.list.FixedList.{FixedList}
-use Rattle.fixed.specs.declared.set.FixedSet.{FixedSet}
 use Rattle.fixed.specs.Lists.{entries}
-use Rattle.terms.specs.Tables.{Table}
 use Rattle.terms.specs.declared.refusal.Refusal.TheVariants.{TooManyPrimes}
 use Rattle.primes.specs.declared.need.Need.{Need}
 use Rattle.primes.specs.declared.prime.Prime.{Prime}
-use Rattle.primes.proofs.Gathering.{Trying, Gathered, skipped, dropped, stand_read, stand_unread, passed, gathered_push, gathered_full, gathered_all}
+use Rattle.primes.proofs.Gathering.{trying, Gathered, skipped, dropped, stand_read, stand_unread, passed, gathered_push, gathered_full, gathered_all}
 use Rattle.primes.proofs.listing.find_primes.Goals as goal
 use Rattle.primes.proofs.listing.find_primes.Goals.{else-d-ne0-via-then-d-ne0+else-contains-2, else-d-ne0-via-else-d-ne0, then-contains+else-loop-i-test+in_ok-map_err, else-contains}
 
 pub terms-preserved-then-contains-2 : goal.terms-preserved-then-contains-2
 terms-preserved-then-contains-2 g c =
-    let tb : Table = g.S.Source.meaning c.args.source.now in
-    let n : ℕ = c.inputs-n.result in
-    let found : FixedSet 6561 = c.judge_all-found.result in
-    let t : Trying tb n found = record { few = (g.met.S.Source.proper c.args.source.now).few; same = c.inputs-n.ensures; right = c.judge_all-found.ensures } in
-    let x : ℕ = c.terms.x in
-    let h : x < 3 ^ n = omega arith in
-    dropped tb n found t x h c.loop-i.i c.digit-d.result c.power.result c.loop-i-test.true c.digit-d.ensures c.power.ensures c.if-d-ne0.true
+    let t = trying (g.met.S.Source.proper c.args.source.now).few c.inputs-n.ensures c.judge_all-found.result c.judge_all-found.ensures in
+    let h : c.terms.x < 3 ^ c.inputs-n.result = omega arith in
+    dropped t h c.loop-i.i c.digit-d.result c.power.result c.loop-i-test.true c.digit-d.ensures c.power.ensures c.if-d-ne0.true
     (entries c.args.needs.now) c.terms.list (sym c.if-contains-2.ensures) c.terms.invariant
 
 pub loop-i-preserved : goal.loop-i-preserved
 loop-i-preserved g c =
-    let tb : Table = g.S.Source.meaning c.args.source.now in
-    let n : ℕ = c.inputs-n.result in
-    let found : FixedSet 6561 = c.judge_all-found.result in
-    let t : Trying tb n found = record { few = (g.met.S.Source.proper c.args.source.now).few; same = c.inputs-n.ensures; right = c.judge_all-found.ensures } in
-    let x : ℕ = c.terms.x in
-    let h : x < 3 ^ n = omega arith in
+    let t = trying (g.met.S.Source.proper c.args.source.now).few c.inputs-n.ensures c.judge_all-found.result c.judge_all-found.ensures in
+    let h : c.terms.x < 3 ^ c.inputs-n.result = omega arith in
     elim c.else-d-ne0.branch [
       | else-d-ne0-via-then-d-ne0+else-contains-2 w ↦
-          stand_read tb n found t x h c.loop-i.i c.digit-d.result w.power.result c.loop-i-test.true c.digit-d.ensures w.power.ensures w.if-d-ne0.true
+          stand_read t h c.loop-i.i c.digit-d.result w.power.result c.loop-i-test.true c.digit-d.ensures w.power.ensures w.if-d-ne0.true
           (sym w.if-contains-2.ensures) c.loop-i.invariant
       | else-d-ne0-via-else-d-ne0 w ↦
-          stand_unread tb n found t x h c.loop-i.i c.loop-i-test.true (sym c.digit-d.ensures ∙ w.if-d-ne0.false) c.loop-i.invariant
+          stand_unread t h c.loop-i.i c.loop-i-test.true (sym c.digit-d.ensures ∙ w.if-d-ne0.false) c.loop-i.invariant
     ]
 
 pub returns-in_err-map_err : goal.returns-in_err-map_err
 returns-in_err-map_err g c =
-    let tb : Table = g.S.Source.meaning c.args.source.now in
-    let n : ℕ = c.inputs-n.result in
-    let found : FixedSet 6561 = c.judge_all-found.result in
-    let t : Trying tb n found = record { few = (g.met.S.Source.proper c.args.source.now).few; same = c.inputs-n.ensures; right = c.judge_all-found.ensures } in
-    let x : ℕ = c.terms.x in
-    let h : x < 3 ^ n = omega arith in
-    let prime = passed tb n found t x h c.loop-i.i (sym c.if-contains.ensures) (omega arith) (omega arith) c.loop-i.invariant in
+    let t = trying (g.met.S.Source.proper c.args.source.now).few c.inputs-n.ensures c.judge_all-found.result c.judge_all-found.ensures in
+    let h : c.terms.x < 3 ^ c.inputs-n.result = omega arith in
+    let prime = passed t h c.loop-i.i (sym c.if-contains.ensures) (omega arith) (omega arith) c.loop-i.invariant in
     let no : is_ok c.push.result ≡ false = search rules in
     let full : 256 ≤ length (entries c.terms.list) = ltb-false (length (entries c.terms.list)) 256 (sym c.push.ensures.room ∙ no) in
     let is : c.from_residual.result ≡ Err TooManyPrimes = search rules in
-    rw is (refl, gathered_full tb n found t x h (entries c.args.needs.now) c.terms.list prime full c.terms.invariant)
+    rw is (refl, gathered_full t h (entries c.args.needs.now) c.terms.list prime full c.terms.invariant)
 
 pub terms-preserved : goal.terms-preserved
 terms-preserved g c =
-    let tb : Table = g.S.Source.meaning c.args.source.now in
-    let n : ℕ = c.inputs-n.result in
-    let found : FixedSet 6561 = c.judge_all-found.result in
-    let t : Trying tb n found = record { few = (g.met.S.Source.proper c.args.source.now).few; same = c.inputs-n.ensures; right = c.judge_all-found.ensures } in
-    let x : ℕ = c.terms.x in
-    let h : x < 3 ^ n = omega arith in
+    let t = trying (g.met.S.Source.proper c.args.source.now).few c.inputs-n.ensures c.judge_all-found.result c.judge_all-found.ensures in
+    let h : c.terms.x < 3 ^ c.inputs-n.result = omega arith in
     let ds : List Need = entries c.args.needs.now in
     elim c.if-contains.branch [
       | then-contains+else-loop-i-test+in_ok-map_err w ↦
-          let prime = passed tb n found t x h w.loop-i.i (sym w.if-contains.ensures) (omega arith) (omega arith) w.loop-i.invariant in
+          let prime = passed t h w.loop-i.i (sym w.if-contains.ensures) (omega arith) (omega arith) w.loop-i.invariant in
           let yes : is_ok w.push.result ≡ true = search rules in
           let room : length (entries c.terms.list) < 256 = ltb-true (length (entries c.terms.list)) 256 (sym w.push.ensures.room ∙ yes) in
-          subst (λ (l : FixedList Prime 256). Gathered tb ds (x + 1) l) (sym w.list-is)
-          (gathered_push tb n found t x h ds c.terms.list w.push.new.list prime room w.push.ensures.after c.terms.invariant)
+          subst (λ (l : FixedList Prime 256). Gathered (g.S.Source.meaning c.args.source.now) ds (c.terms.x + 1) l) (sym w.list-is)
+          (gathered_push t h ds c.terms.list w.push.new.list prime room w.push.ensures.after c.terms.invariant)
       | else-contains w ↦
-          subst (λ (l : FixedList Prime 256). Gathered tb ds (x + 1) l) (sym w.list-is)
-          (skipped tb n found t x h ds c.terms.list (sym w.if-contains.ensures) c.terms.invariant)
+          subst (λ (l : FixedList Prime 256). Gathered (g.S.Source.meaning c.args.source.now) ds (c.terms.x + 1) l) (sym w.list-is)
+          (skipped t h ds c.terms.list (sym w.if-contains.ensures) c.terms.invariant)
     ]
 
 pub returns : goal.returns
 returns g c =
-    let tb : Table = g.S.Source.meaning c.args.source.now in
-    let n : ℕ = c.inputs-n.result in
-    let found : FixedSet 6561 = c.judge_all-found.result in
-    let t : Trying tb n found = record { few = (g.met.S.Source.proper c.args.source.now).few; same = c.inputs-n.ensures; right = c.judge_all-found.ensures } in
-    gathered_all tb n found t c.terms.x (entries c.args.needs.now) c.terms.list (omega arith) c.terms.invariant
+    let t = trying (g.met.S.Source.proper c.args.source.now).few c.inputs-n.ensures c.judge_all-found.result c.judge_all-found.ensures in
+    gathered_all t c.terms.x (entries c.args.needs.now) c.terms.list (omega arith) c.terms.invariant

@@ -5,4 +5,4 @@ pub loop-row-init : goal.loop-row-init
 loop-row-init g c = added_none (g.S.Source.meaning c.args.source.now) c.args.list.now
 
 pub loop-row-preserved : goal.loop-row-preserved
-loop-row-preserved g c = added_more (g.S.Source.meaning c.args.source.now) _ _ _ _ _ _ c.loop-row.invariant c.add_pairs_at.ensures (pairs_more (g.S.Source.meaning c.args.source.now).inputs c.loop-row.row)
+loop-row-preserved g c = added_more (g.S.Source.meaning c.args.source.now) _ _ _ c.loop-row.invariant c.add_pairs_at.ensures (pairs_more (g.S.Source.meaning c.args.source.now).inputs c.loop-row.row)

@@ -19,7 +19,7 @@ loop-input-preserved g c =
     let more = λ (b : Bool). map (pair_need r) (cond b (i ∷ []) []) in
     elim c.if-row-input-eq0.branch [
       | then-row-input-eq0 w ↦
-          added_more tb _ _ _ _ (w.pair.result ∷ []) _ c.loop-input.invariant (ap entries w.list-is ∙ w.add.ensures)
+          added_more tb _ _ (w.pair.result ∷ []) c.loop-input.invariant (ap entries w.list-is ∙ w.add.ensures)
           (inputs_more r i ∙ ap (λ (ds : List Need). pairs_at r 0 i ++ ds)
           (ap more (eq-eqb _ 0 (sym (shift_bit r i) ∙ w.if-row-input-eq0.true)) ∙ ap (λ (d : Need). d ∷ []) (sym w.pair.ensures)))
       | else-row-input-eq0 w ↦

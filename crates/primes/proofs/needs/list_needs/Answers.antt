@@ -15,6 +15,6 @@ returns-in-Plain g c =
 pub returns-in-HazardFree : goal.returns-in-HazardFree
 returns-in-HazardFree g c =
     let tb : Table = g.S.Source.meaning c.args.source.now in
-    added_more tb [] _ _ (candidates tb.inputs Plain) (pairs tb.inputs 0 (2 ^ tb.inputs)) (candidates tb.inputs HazardFree)
+    added_more tb [] (candidates tb.inputs Plain) (pairs tb.inputs 0 (2 ^ tb.inputs))
     (c.add_rows.ensures ∙ ap (λ (old : List Need). added tb old (candidates tb.inputs Plain)) c.new-list.ensures) c.add_pairs.ensures refl
     ∙ added_all tb HazardFree (g.met.S.Source.proper c.args.source.now).few ∙ ap (needs tb) (sym c.in-HazardFree.is)
