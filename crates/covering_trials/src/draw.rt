@@ -1,5 +1,5 @@
 // Charts drawn by a simple generator, the same on every run.
-use crate::sample::Sample;
+use crate::sample::{MOST_COLUMNS, MOST_NEEDS, Sample};
 use std::array;
 use terms::Term;
 
@@ -23,26 +23,23 @@ impl Dice {
     fn term(&mut self) -> Term {
         let mask = (self.roll(8) & 0xff) as u8;
         let levels = (self.roll(8) & 0xff) as u8;
-        match Term::new(8, mask, levels & mask) {
-            Ok(term) => term,
-            Err(_) => Term { mask: 0, levels: 0 },
-        }
+        Term::new(8, mask, levels & mask).unwrap_or(Term { mask: 0, levels: 0 })
     }
 
     // A term for each of ten columns.
-    fn terms(&mut self) -> [Term; 10] {
+    fn terms(&mut self) -> [Term; MOST_COLUMNS] {
         array::from_fn(|_| self.term())
     }
 
     // Which of ten columns hold which of twelve needs: `dense` cells in eight.
-    fn cells(&mut self, dense: u32) -> [bool; 120] {
+    fn cells(&mut self, dense: u32) -> [bool; MOST_COLUMNS * MOST_NEEDS] {
         array::from_fn(|_| self.roll(8) < dense)
     }
 
     // The chart of a number: the denser the higher its remainder by five.
     pub fn sample(&mut self, number: usize) -> Sample {
-        let columns = 1 + self.roll(10) as usize;
-        let needs = self.roll(13) as usize;
+        let columns = 1 + self.roll(MOST_COLUMNS as u32) as usize;
+        let needs = self.roll(MOST_NEEDS as u32 + 1) as usize;
         let terms = self.terms();
         let cells = self.cells(2 + (number % 5) as u32);
         Sample {

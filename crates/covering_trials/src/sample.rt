@@ -15,8 +15,8 @@ pub const MOST_NEEDS: usize = 12;
 pub struct Sample {
     pub columns: usize,
     pub needs: usize,
-    pub cells: [bool; 120],
-    pub terms: [Term; 10],
+    pub cells: [bool; MOST_COLUMNS * MOST_NEEDS],
+    pub terms: [Term; MOST_COLUMNS],
 }
 
 impl Chart for Sample {
@@ -33,10 +33,10 @@ impl Chart for Sample {
     }
 
     fn holds(&self, column: usize, need: usize) -> bool {
-        column < MOST_COLUMNS && need < MOST_NEEDS && self.cells[column * 12 + need]
+        column < MOST_COLUMNS && need < MOST_NEEDS && self.cells[column * MOST_NEEDS + need]
     }
 
     fn price<O: CostOrder>(&self, order: &O, column: usize) -> O::Total {
-        order.price(self.terms[column.min(9)])
+        order.price(self.terms[column.min(MOST_COLUMNS - 1)])
     }
 }

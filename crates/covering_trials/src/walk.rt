@@ -5,7 +5,7 @@ use covering::search;
 use orders::CostOrder;
 use std::io;
 
-// What came of one chart: three facts, none of which follows from the others.
+// What came of one chart: three facts that are counted apart.
 #[derive(Clone, Copy)]
 pub struct Outcome {
     pub covers: bool,
@@ -52,12 +52,12 @@ fn columns_of(number: usize) -> ColumnSet {
     set
 }
 
-// Whether one of the set's columns holds the need.
+// Whether one of the set's columns holds the need. The walk is written apart from the search on purpose: it checks it.
 fn is_met(sample: &Sample, set: &ColumnSet, need: usize) -> bool {
     (0..MOST_COLUMNS).any(|column| set.contains(column) && sample.holds(column, need))
 }
 
-// Whether the set stays within the chart's columns and holds each of its needs.
+// Whether the set stays within the chart's columns and holds each of its needs; written apart from the search, too.
 fn covers(sample: &Sample, set: &ColumnSet) -> bool {
     (sample.columns()..MOST_COLUMNS).all(|column| !set.contains(column))
         && (0..sample.needs()).all(|need| is_met(sample, set, need))
@@ -73,29 +73,29 @@ struct Walked<T> {
 // What is found after one more set: the first of the best stays.
 fn found_with<O: CostOrder>(
     order: &O,
-    walked: Option<Walked<O::Total>>,
-    value: Valued<O::Total>,
-) -> Option<Walked<O::Total>> {
-    match walked {
-        Some(Walked { best, ties }) if !is_fine(order, &value, &best, true) => Some(Walked {
-            best,
-            ties: ties || is_fine(order, &value, &best, false),
-        }),
-        _ => Some(Walked {
-            best: value,
-            ties: false,
-        }),
+    walked: Walked<O::Total>,
+    next: Walked<O::Total>,
+) -> Walked<O::Total> {
+    if is_fine(order, &next.best, &walked.best, true) {
+        return next;
+    }
+    Walked {
+        best: walked.best,
+        ties: walked.ties || is_fine(order, &next.best, &walked.best, false),
     }
 }
 
 // Walks through every set, the earliest first, and keeps the first best one; nothing where none covers.
 fn walk_all<O: CostOrder>(order: &O, sample: &Sample) -> Option<Walked<O::Total>> {
-    (0..1024)
+    (0..1 << MOST_COLUMNS)
         .rev()
         .map(columns_of)
         .filter(|set| covers(sample, set))
-        .map(|set| value_of(order, sample, &set))
-        .fold(None, |walked, value| found_with(order, walked, value))
+        .map(|set| Walked {
+            best: value_of(order, sample, &set),
+            ties: false,
+        })
+        .reduce(|walked, next| found_with(order, walked, next))
 }
 
 // Compares the walk with what the search gives.
@@ -113,7 +113,7 @@ pub fn compare<O: CostOrder>(order: &O, sample: &Sample) -> Outcome {
     }
 }
 
-// Whether two values are of one set, and cost the same.
+// Whether two values are of one set, and cost the same. Not derived: a derive would ask `PartialEq` of every total.
 fn agree<O: CostOrder>(order: &O, a: &Valued<O::Total>, b: &Valued<O::Total>) -> bool {
     a.set == b.set && a.size == b.size && is_fine(order, a, b, false) && is_fine(order, b, a, false)
 }

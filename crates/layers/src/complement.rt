@@ -13,6 +13,7 @@ pub struct Complement<S> {
 }
 
 impl<S> Complement<S> {
+    #[tactic(auto, using(crate::proofs::Layering::complement_twice))]
     pub fn new(below: S) -> Complement<S>
         ensures value { result.below ≡ below }
         ensures twice { ComplementTwice }

@@ -18,6 +18,7 @@ pub trait Source {
     fn look(&self, row: usize) -> Result<Mark, Refusal>
         ensures { result ≡ looked (meaning self.now) row };
 
+    // `is_on` and `is_off` are two questions of the interface, with a name each.
     // Whether there is such a row and it is ON.
     fn is_on(&self, row: usize) -> bool
         ensures { result ≡ on_at (meaning self.now) row }

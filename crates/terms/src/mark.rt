@@ -15,6 +15,7 @@ pub enum Mark {
 }
 
 impl Mark {
+    // `is_on` and `is_off` are two questions of the interface, with a name each.
     pub fn is_on(self) -> bool
         ensures { result ≡ is_on self }
     {

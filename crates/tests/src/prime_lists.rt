@@ -46,9 +46,8 @@ fn is_essential(list: &PrimeList, place: usize) -> bool {
 }
 
 // The number and the needs of the prime at a place.
-fn figures(list: &PrimeList, place: usize) -> (usize, usize) {
-    list.get(place)
-        .map_or((9999, 0), |prime| (prime.number, prime.needs))
+fn figures(list: &PrimeList, place: usize) -> Option<(usize, usize)> {
+    list.get(place).map(|prime| (prime.number, prime.needs))
 }
 
 #[test]
@@ -81,12 +80,12 @@ fn essential_by_a_pair(rt: HostRuntime) -> Result<(), Fail> {
     let mut list = PrimeList::new();
     primes(&truth, Work::Plain, &mut list)?;
     assert_eq!(rt; list.len(), 3);
-    assert_eq!(rt; figures(&list, 0), (5, 2));
+    assert_eq!(rt; figures(&list, 0), Some((5, 2)));
     assert!(rt; !is_essential(&list, 0));
     primes(&truth, Work::HazardFree, &mut list)?;
-    assert_eq!(rt; figures(&list, 0), (5, 3));
+    assert_eq!(rt; figures(&list, 0), Some((5, 3)));
     assert!(rt; is_essential(&list, 0));
-    assert_eq!(rt; figures(&list, 1), (12, 3));
+    assert_eq!(rt; figures(&list, 1), Some((12, 3)));
     Ok(())
 }
 
@@ -100,7 +99,7 @@ fn refused_list_keeps(rt: HostRuntime) -> Result<(), Fail> {
         Err(Refusal::TooManyPrimes)
     );
     assert_eq!(rt; list.len(), 2);
-    assert_eq!(rt; figures(&list, 0), (2, 1));
-    assert_eq!(rt; figures(&list, 1), (6, 0));
+    assert_eq!(rt; figures(&list, 0), Some((2, 1)));
+    assert_eq!(rt; figures(&list, 1), Some((6, 0)));
     Ok(())
 }

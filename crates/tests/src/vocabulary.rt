@@ -31,14 +31,15 @@ fn numbers_at_the_ends(rt: HostRuntime) -> Result<(), Fail> {
 
 #[test]
 fn malformed_terms(rt: HostRuntime) {
-    assert_eq!(rt; number_refusing(3, 0b1000, 0), 4);
-    assert_eq!(rt; number_refusing(4, 0b0101, 0b0010), 4);
-    assert_eq!(rt; number_refusing(0, 1, 0), 4);
-    assert_eq!(rt; number_refusing(9, 255, 255), 0);
+    assert_eq!(rt; number_refusing(3, 0b1000, 0), Some(4));
+    assert_eq!(rt; number_refusing(4, 0b0101, 0b0010), Some(4));
+    assert_eq!(rt; number_refusing(0, 1, 0), Some(4));
+    assert_eq!(rt; number_refusing(9, 255, 255), None);
 }
 
-fn number_refusing(inputs: usize, mask: u8, levels: u8) -> u8 {
-    Term::new(inputs, mask, levels).err().map_or(0, u8::from)
+// The number of the refusal, where there is one.
+fn number_refusing(inputs: usize, mask: u8, levels: u8) -> Option<u8> {
+    Term::new(inputs, mask, levels).err().map(u8::from)
 }
 
 #[test]

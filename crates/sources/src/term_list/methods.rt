@@ -66,7 +66,7 @@ fn gather(heap: Global, inputs: usize, terms: &[(u8, u8)]) -> Result<Vec<Term>, 
     requires { all_terms inputs terms.now ≡ true }
     ensures { MatchResult result (λ v. map bytes v.items ≡ terms.now) (λ e. e ≡ OutOfMemory) }
 {
-    // A loop: `try_collect` says nothing of the error where it fails.
+    // A loop: tried `try_collect`, and the answer that it gathers these very terms did not close.
     let mut gathered = Vec::new(heap);
     for &(mask, levels) in terms {
         gathered.push(Term::new(inputs, mask, levels)?)?;

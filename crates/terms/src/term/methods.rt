@@ -25,6 +25,7 @@ impl Term {
     }
 
     // Whether the term holds a row.
+    #[tactic(auto, using(crate::proofs::Bits::holds_by_levels))]
     pub fn holds(self, row: usize) -> bool
         ensures value { result ≡ holds self row }
         ensures law { HoldsByLevels }
@@ -41,6 +42,7 @@ impl Term {
     }
 
     // The term's number, 0 to 6,560; no two terms share one.
+    #[tactic(auto, using(crate::proofs::Numbers::numbers_differ, crate::proofs::Numbers::numbers_bounded))]
     pub fn number(self) -> usize
         ensures value { result ≡ number self }
         ensures differ { NumbersDiffer }
@@ -70,11 +72,8 @@ impl Term {
     pub fn written(self, heap: Global, inputs: usize) -> Result<String, AllocError>
         ensures { IfOk result (λ s. string_bytes s ≡ written inputs self) }
     {
-        // A loop: the check does not find what text a chain over a reversed range collects.
-        let mut text = String::new(heap);
-        for i in (0..inputs).rev() {
-            text.push(char::from(self.symbol(i)))?;
-        }
-        Ok(text)
+        (0..inputs)
+            .map(|k| char::from(self.symbol(inputs - 1 - k)))
+            .collect(heap)
     }
 }

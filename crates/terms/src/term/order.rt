@@ -9,7 +9,7 @@ ghost use Rattle.terms.specs.Terms.{rank};
 use crate::term::Term;
 use std::cmp::Ordering;
 
-// Not derived: a derive compares the bytes, and that these tie where the numbers do is shown in `proofs/`, which no law of an impl can cite.
+// Not derived: the law that bytes tie exactly where numbers do would move the proof of `NumbersDiffer` into `specs/`.
 impl PartialEq for Term {
     ghost eq = { on rank ◌==◌ };
 

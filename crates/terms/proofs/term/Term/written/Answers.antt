@@ -1,13 +1,13 @@
-use Rattle.std.proofs.Common.{ℕ, ◌-◌, ◌<◌, string_bytes, sym, ◌∙◌, subst, arith}
-use lib.Utf8.{encode}
-use Rattle.terms.proofs.Bits.{symbol_lt}
-use Rattle.terms.proofs.Writing.{written_more}
+use Rattle.std.proofs.Common.{rules, arith, ◌≡◌, ◌∙◌, string_bytes, tests}
+use Rattle.std.proofs.lemmas.Iterator.{YieldsList-from_range, YieldsList-from_map, text_from_collect}
+use Rattle.std.proofs.lemmas.Result.{IfOk-weaker}
+use Rattle.terms.specs.Terms.{written}
+use Rattle.terms.proofs.Writing.{symbol_at, text_from}
 use Rattle.terms.proofs.term.Term.written.Goals as goal
 
-pub loop-i-preserved : goal.loop-i-preserved
-loop-i-preserved c =
-    let e = c.from.ensures ∙ c.symbol.ensures in
-    let small : c.from.result < 128 = subst (λ (x : ℕ). x < 128) (sym e) (symbol_lt c.args.self (c.loop-i.i - 1)) in
-    written_more c.args.self c.args.inputs c.loop-i.i c.from.result (string_bytes c.loop-i.text) (string_bytes c.push.new.self)
-    (encode c.from.result) (omega arith) e
-    c.in_ok-push.ensures.bytes (c.in_ok-push.ensures.ascii small) c.loop-i.invariant
+pub returns : goal.returns
+returns c =
+    IfOk-weaker c.collect.result _ (λ s. string_bytes s ≡ written c.args.inputs c.args.self)
+    (λ s e. e ∙ text_from c.args.self c.args.inputs 0 c.args.inputs (omega arith))
+    (text_from_collect c.collect.result c.collect.ensures.ran
+    (YieldsList-from_map _ (symbol_at c.args.self c.args.inputs) (YieldsList-from_range 0 c.args.inputs c.args.inputs (search rules) (omega arith)) c.map.ensures.closure (λ x r q k. search (rules, tests))))
