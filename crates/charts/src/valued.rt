@@ -9,7 +9,8 @@ use crate::chart::Chart;
 use crate::columns::ColumnSet;
 use orders::CostOrder;
 
-// A set with its total and its number of columns. Functions take the order and the chart as two parameters: a struct of the
+// A set with its total and its number of columns. That they are the set's (`Priced`) is a clause of what gives such a value: as a
+// field it would tie the type to an order and a chart. Functions take the order and the chart as two parameters: a struct of the
 // two references would make each clause say `self.now.order.now` and `self.now.chart.now`.
 #[derive(Clone, Copy)]
 pub struct Valued<T> {

@@ -7,7 +7,8 @@ use std::alloc::AllocError;
 use std::error::Error;
 use std::fmt;
 
-// The first `len` items of the table are the list; what stands after them is of no account.
+// The first `len` items of the table are the list; what stands after them is of no account. Not the kit's `arrayvec`, which is not
+// `Copy`; and no model, since a `Copy` type with one has to give all its fields back. A derive does not go over a ghost field.
 pub struct FixedList<T, const N: usize> {
     items: [T; N],
     len: usize,
