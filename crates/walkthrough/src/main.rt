@@ -177,6 +177,7 @@ fn enter(rt: &impl Print, truth: &mut TruthTable, calls: &[Call]) -> io::Result<
     Ok(())
 }
 
+// A call as it was entered. No `Display` of `Call`: how bytes are padded is this program's, and the text would have to be pinned.
 fn print_call(rt: &impl Print, call: Call) -> io::Result<()> {
     match call {
         Call::Size { inputs } => print!(rt; "  size {inputs}: "),
