@@ -1,7 +1,7 @@
 -- The columns that are left for a need: what a chain over them says of each.
 use Rattle.std.proofs.Common.{◌≡◌, ℕ, ◌<◌, ◌≤◌, Bool, true, false, not, nat_lt, ◌&&◌, ◌||◌, cond, List, [], ◌∷◌, filter, length, Some, sym, refl, ap, ◌∙◌, subst, inl, inr, ⊎_elim, arith}
-use Rattle.std.specs.List.{list_all, fold, reduce, range_with_len}
-use Rattle.std.proofs.lemmas.Bool.{and_parts, or_right, both_ways, cases_lt, lt-ltb, not-true, not-false, false≢true}
+use Rattle.std.specs.List.{list_all, fold, reduce}
+use Rattle.std.proofs.lemmas.Bool.{and_parts, or_right, both_ways, cases_lt, lt-ltb, not-true, not-false}
 use Rattle.terms.specs.Lists.{In}
 use Rattle.terms.proofs.Members.{in_kept}
 use Rattle.orders.specs.Orders.{Laws}
@@ -11,7 +11,7 @@ use Rattle.charts.specs.Best.{Problem, columns}
 use Rattle.charts.specs.Sets.{is_held, Covers}
 use Rattle.charts.proofs.Listings.{in_counting, counting_in}
 use Rattle.charts.proofs.Holding.{held_from, from_held, unheld_from}
-use Rattle.reductions.specs.Spares.{is_left, left_for}
+use Rattle.reductions.specs.Spares.{needs, is_left, left_for}
 use Rattle.covering.specs.Floors.{is_unused, cheaper, Apart, Cheapest}
 
 -- what all pass each passes
@@ -86,15 +86,15 @@ module _ (p : Problem) (laws : Laws p.order) where
           at q (inr k) = subst (λ (u : ℕ). AtMost u c) q ((folded x xs).1 c k)
 
 -- each need is held where none is left open
-pub covers_from : (g : Grid) (t : ℕ → Bool) → length (filter (λ i. not (is_held g t i)) (range_with_len 0 g.wanted)) ≡ 0 → Covers g t
-covers_from g t h i l = held_from g t i (not-false (is_held g t i) (none_kept (λ k. not (is_held g t k)) (range_with_len 0 g.wanted) i h (counting_in 0 g.wanted i (omega arith) (omega arith))))
+pub covers_from : (g : Grid) (t : ℕ → Bool) → length (filter (λ i. not (is_held g t i)) (needs g)) ≡ 0 → Covers g t
+covers_from g t h i l = held_from g t i (not-false (is_held g t i) (none_kept (λ k. not (is_held g t k)) (needs g) i h (counting_in 0 g.wanted i (omega arith) (omega arith))))
 
 -- a set covers exactly when each need is held
-pub covers_all : (g : Grid) (s : ℕ → Bool) → list_all (is_held g s) (range_with_len 0 g.wanted) ≡ true → Covers g s
-covers_all g s h i l = held_from g s i (each_of (is_held g s) (range_with_len 0 g.wanted) i h (counting_in 0 g.wanted i (omega arith) (omega arith)))
+pub covers_all : (g : Grid) (s : ℕ → Bool) → list_all (is_held g s) (needs g) ≡ true → Covers g s
+covers_all g s h i l = held_from g s i (each_of (is_held g s) (needs g) i h (counting_in 0 g.wanted i (omega arith) (omega arith)))
 
-pub all_covered : (g : Grid) (s : ℕ → Bool) → Covers g s → list_all (is_held g s) (range_with_len 0 g.wanted) ≡ true
-all_covered g s h = go (range_with_len 0 g.wanted) (λ i k. let l = (in_counting 0 g.wanted i k).1 in from_held g s i (h i (omega arith)))
+pub all_covered : (g : Grid) (s : ℕ → Bool) → Covers g s → list_all (is_held g s) (needs g) ≡ true
+all_covered g s h = go (needs g) (λ i k. let l = (in_counting 0 g.wanted i k).1 in from_held g s i (h i (omega arith)))
   where
     go : (xs : List ℕ) → ((i : ℕ) → In i xs → is_held g s i ≡ true) → list_all (is_held g s) xs ≡ true
     go [] f = refl

@@ -6,6 +6,7 @@ use Rattle.charts.specs.Grids.{Grid}
 use Rattle.charts.specs.Best.{Problem}
 use Rattle.charts.specs.Sets.{cost, size}
 use Rattle.reductions.specs.Goals.{Good}
+use Rattle.reductions.specs.Spares.{no_dearer}
 
 -- a part of d that costs at least x and has at least n columns, each of them taken or used
 pub record Under (p : Problem) (t used : ℕ → Bool) (x : p.order.Total) (n : ℕ) (d : ℕ → Bool) : Type 0 where
@@ -28,7 +29,7 @@ is_unused t used c = not (t c) && not (used c)
 
 -- the cheaper of two columns; the first where they cost the same
 abbrev pub cheaper : Problem → ℕ → ℕ → ℕ
-cheaper p a b = if p.order.at_most (p.order.price (p.grid.term a)) (p.order.price (p.grid.term b)) then a else b
+cheaper p a b = if no_dearer p a b then a else b
 
 -- no column that is left for the need is taken or used
 abbrev pub Apart : Grid → (ℕ → Bool) → (ℕ → Bool) → (ℕ → Bool) → ℕ → Type 0

@@ -1,10 +1,8 @@
 // Which need to settle next, and by which column.
-ghost use Rattle.std.specs.Prelude.{◌≡◌, ℕ, ◌<◌, ◌≤◌, true, false, not, ◌&&◌, [], filter, length, IfSome, IsNone};
-ghost use Rattle.std.specs.List.{range_with_len};
+ghost use Rattle.std.specs.Prelude.{◌≡◌, ◌<◌, true, false, not, filter, length, IfSome, IsNone};
 ghost use Rattle.fixed.specs.Sets.{member};
-ghost use Rattle.charts.specs.Best.{columns};
-ghost use Rattle.charts.specs.Sets.{is_held, Covers};
-ghost use Rattle.reductions.specs.Spares.{is_left, left_for};
+ghost use Rattle.charts.specs.Sets.{is_held};
+ghost use Rattle.reductions.specs.Spares.{needs as needs_of, is_left, left_for};
 ghost use Rattle.reductions.specs.Trails.{taken, banned};
 
 use charts::{Chart, ColumnSet};
@@ -24,7 +22,7 @@ fn count_left<C: Chart>(chart: &C, left_out: &ColumnSet, need: usize) -> usize
 pub(crate) fn hardest_need<C: Chart>(chart: &C, node: &Node) -> Option<usize>
     ensures there { IfSome result (λ i. i < (C.Chart.grid chart.now).wanted) }
     ensures unheld { IfSome result (λ i. is_held (C.Chart.grid chart.now) (taken node.now) i ≡ false) }
-    ensures none { IsNone result → length (filter (λ i. not (is_held (C.Chart.grid chart.now) (taken node.now) i)) (range_with_len 0 (C.Chart.grid chart.now).wanted)) ≡ 0 }
+    ensures none { IsNone result → length (filter (λ i. not (is_held (C.Chart.grid chart.now) (taken node.now) i)) (needs_of (C.Chart.grid chart.now))) ≡ 0 }
 {
     (0..chart.needs())
         .filter(|need| !held_by(chart, &node.taken, *need))
@@ -33,7 +31,7 @@ pub(crate) fn hardest_need<C: Chart>(chart: &C, node: &Node) -> Option<usize>
 
 // How many of the needs the column holds.
 fn count_held<C: Chart>(chart: &C, needs: &NeedSet, column: usize) -> usize
-    ensures { result ≡ length (filter (λ i. (C.Chart.grid chart.now).held column i) (filter (member needs.now) (range_with_len 0 (C.Chart.grid chart.now).wanted))) }
+    ensures { result ≡ length (filter (λ i. (C.Chart.grid chart.now).held column i) (filter (member needs.now) (needs_of (C.Chart.grid chart.now)))) }
 {
     (0..chart.needs())
         .filter(|need| needs.contains(*need))

@@ -1,8 +1,8 @@
 // What a set costs at least: needs that share no column want a column each.
-ghost use Rattle.std.specs.Prelude.{◌≡◌, ℕ, ◌<◌, ◌≤◌, true, ◌&&◌, ◌||◌, nat_lt, filter, if◌then◌else◌, IfSome};
+ghost use Rattle.std.specs.Prelude.{◌≡◌, ℕ, ◌<◌, true, ◌&&◌, ◌||◌, nat_lt};
 ghost use Rattle.std.specs.List.{list_all, reduce};
 ghost use Rattle.fixed.specs.Sets.{member};
-ghost use Rattle.charts.specs.Best.{problem, columns};
+ghost use Rattle.charts.specs.Best.{problem};
 ghost use Rattle.reductions.specs.Spares.{is_left, left_for};
 ghost use Rattle.reductions.specs.Trails.{taken, banned};
 ghost use Rattle.covering.specs.Floors.{is_unused, cheaper};
@@ -50,6 +50,7 @@ fn cheapest<O: CostOrder, C: Chart>(
         .filter(|column| is_left(chart, left_out, need, *column))
         .reduce(|best, column| cheaper(order, chart, best, column))
 }
+
 // The used columns, and those that are left for the need.
 fn with_left<C: Chart>(chart: &C, left_out: &ColumnSet, need: usize, used: &ColumnSet) -> ColumnSet
     ensures { (c : ℕ) → c < 256 → member result c ≡ (member used.now c || nat_lt c (C.Chart.grid chart.now).width && is_left (C.Chart.grid chart.now) (member left_out.now) need c) }

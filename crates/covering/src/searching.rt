@@ -1,9 +1,10 @@
 // The search for the best set of columns.
 ghost use Rattle.std.specs.Prelude.{◌≡◌, length, is_some, IfSome};
-ghost use Rattle.std.specs.List.{list_all, range_with_len};
+ghost use Rattle.std.specs.List.{list_all};
 ghost use Rattle.charts.specs.Best.{problem, columns, covering, total_of, best_set, BestSet};
 ghost use Rattle.fixed.specs.Sets.{member};
 ghost use Rattle.charts.specs.Sets.{columns_in, is_held};
+ghost use Rattle.reductions.specs.Spares.{needs as needs_of};
 
 use crate::earliest::earliest;
 use crate::seeking::least;
@@ -13,7 +14,7 @@ use reductions::held_by;
 
 // Whether the set holds every need.
 fn covers<C: Chart>(chart: &C, set: &ColumnSet) -> bool
-    ensures { result ≡ list_all (is_held (C.Chart.grid chart.now) (member set.now)) (range_with_len 0 (C.Chart.grid chart.now).wanted) }
+    ensures { result ≡ list_all (is_held (C.Chart.grid chart.now) (member set.now)) (needs_of (C.Chart.grid chart.now)) }
 {
     (0..chart.needs()).all(|need| held_by(chart, set, need))
 }
