@@ -35,13 +35,12 @@ impl Price {
         Ok(())
     }
 
-    // What the contacts of a term cost.
+    // What the contacts of a term cost: each price as often as its input is read, once or not at all.
     fn contact_prices(&self, term: Term) -> usize
         ensures { result ≡ contact_prices self.now.prices term }
     {
         (0..8)
-            .filter(|&input| term.mask >> input & 1 == 1)
-            .map(|input| self.prices[input + 1])
+            .map(|input| usize::from(term.mask >> input & 1) * self.prices[input + 1])
             .sum()
     }
 }
