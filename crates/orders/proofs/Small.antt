@@ -69,3 +69,8 @@ sum_read ps m (x ∷ xs) =
 pub read_prices : (ps : List ℕ) (m : ℕ) → sum_by (λ i. get_or ps (i + 1) 0) (filter (λ i. bit m i == 1) (range_with_len 0 8)) ≡ sum_below 8 (λ i. bit m i * get_or ps (suc i) 0)
 unfolding sum_below
 read_prices ps m = sum_read ps m (range_with_len 0 8)
+
+-- the prices of eight inputs, each as often as it is read, one after the other
+pub prices_summed : (ps : List ℕ) (m : ℕ) → sum_by (λ i. bit m i * get_or ps (suc i) 0) (range_with_len 0 8) ≡ sum_below 8 (λ i. bit m i * get_or ps (suc i) 0)
+unfolding sum_below
+prices_summed ps m = refl

@@ -1,6 +1,6 @@
 -- Totals under every lawful cost order.
-use Rattle.std.proofs.Common.{◌≡◌, ◌≤◌, true, ◌⊎◌, List, [], ◌∷◌, ◌++◌, length, sym, refl, ap, ◌∙◌, subst, inl, inr, arith, length-append}
-use Rattle.std.proofs.lemmas.List.{append-nil}
+use Rattle.std.proofs.Common.{◌≡◌, ◌≤◌, true, ◌⊎◌, List, [], ◌∷◌, ◌++◌, length, reverse, sym, refl, ap, ◌∙◌, subst, inl, inr, arith, length-append}
+use Rattle.std.proofs.lemmas.List.{append-nil, length-reverse, reverse-append}
 use Rattle.terms.specs.declared.term.Term.{Term}
 use Rattle.terms.specs.Lists.{In}
 use Rattle.orders.specs.Orders.{Meaning, Laws, total, JoinsExactly}
@@ -79,3 +79,13 @@ module _ (m : Meaning) (laws : Laws m) where
       ∙ laws.comm (total m ts) (m.price t)
       ∙ ap (λ (us : List Term). m.join (m.price t) (total m us)) (sym (append-nil ts))
       ∙ sym (any_order ts t [])
+
+  -- one term more in front, where the terms come from the last to the first
+  pub total_front : (ts : List Term) (t : Term) (a b : m.Total) → (length ts ≤ 256 → a ≡ total m (reverse ts)) → JoinsExactly m (m.price t) a b → length (ts ++ t ∷ []) ≤ 256 → b ≡ total m (reverse (ts ++ t ∷ []))
+  total_front ts t a b so_far joins few =
+      let n = length-append ts (t ∷ []) in
+      let r = length-reverse ts in
+      let e = so_far (omega arith) in
+      joins (t ∷ []) (reverse ts) (total_one t) e (omega arith)
+      ∙ ap (m.join (m.price t)) e
+      ∙ ap (total m) (sym (reverse-append ts (t ∷ [])))

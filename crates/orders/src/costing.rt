@@ -23,9 +23,10 @@ pub fn cost<O: CostOrder>(order: &O, terms: &[Term]) -> Option<O::Total>
     if terms.len() > MOST_TERMS {
         return None;
     }
-    let sum = terms.iter().fold(
+    // From the last term to the first, each in front of those after it, as `total` has them.
+    let sum = terms.iter().rev().fold(
         order.empty(),
-        |sum, &term| order.join(sum, order.price(term)),
+        |sum, &term| order.join(order.price(term), sum),
     );
     Some(sum)
 }

@@ -1,7 +1,8 @@
 // The sum of prices: one for each term, and one for each contact, by its input.
-ghost use Rattle.std.specs.Prelude.{◌≡◌, ◌+◌, true, replicate, nat_le};
+ghost use Rattle.std.specs.Prelude.{◌≡◌, suc, ◌+◌, ◌*◌, ◌<◌, true, replicate, nat_le, slice_index};
 ghost use Rattle.orders.specs.Kinds.{all_small, by_price, contact_prices, price_at, stopped, priced, prices_after};
 ghost use Rattle.orders.specs.Lawful.{price_laws};
+ghost use Rattle.terms.specs.Terms.{bit};
 
 use crate::order::CostOrder;
 use terms::{Refusal, Term};
@@ -35,14 +36,22 @@ impl Price {
         Ok(())
     }
 
+    // What a term's contact at an input costs, and nothing where it has none there.
+    fn contact_price(&self, term: Term, input: usize) -> usize
+        requires { input < 8 }
+        ensures { result ≡ bit term.mask input * slice_index self.now.prices (suc input) }
+    {
+        if term.mask >> input & 1 == 0 {
+            return 0;
+        }
+        self.prices[input + 1]
+    }
+
     // What the contacts of a term cost.
     fn contact_prices(&self, term: Term) -> usize
         ensures { result ≡ contact_prices self.now.prices term }
     {
-        (0..8)
-            .filter(|&input| term.mask >> input & 1 == 1)
-            .map(|input| self.prices[input + 1])
-            .sum()
+        (0..8).map(|input| self.contact_price(term, input)).sum()
     }
 }
 

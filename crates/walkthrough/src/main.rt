@@ -198,12 +198,7 @@ fn print_outcome(rt: &impl Print, outcome: Outcome) -> io::Result<()> {
 }
 
 // The finished table: one line for each row, the inputs from the highest, then the output.
-fn show<S: Source>(
-    rt: &(impl Print + AllocGlobal),
-    source: &S,
-    inputs: &[&str],
-    output: &str,
-) -> io::Result<()> {
+fn show<S: Source>(rt: &impl Print, source: &S, inputs: &[&str], output: &str) -> io::Result<()> {
     rt.print("  row")?;
     for name in inputs {
         print!(rt; " {name}")?;
@@ -217,12 +212,11 @@ fn show<S: Source>(
     Ok(())
 }
 
-// The levels of a row, each under the name of its input: the row in binary, the highest input first.
-fn show_levels(rt: &(impl Print + AllocGlobal), row: usize, inputs: &[&str]) -> io::Result<()> {
-    let count = inputs.len();
-    let levels = format!(in rt.alloc(); "{row:0count$b}")?;
-    for (name, level) in inputs.iter().zip(levels.chars()) {
+// The levels of a row, each under the name of its input, the highest input first. A bit for each: a text of the row would want memory.
+fn show_levels(rt: &impl Print, row: usize, inputs: &[&str]) -> io::Result<()> {
+    for (name, input) in inputs.iter().zip((0..inputs.len()).rev()) {
         let width = name.len();
+        let level = if input < 8 { row >> input & 1 } else { 0 };
         print!(rt; " {level:>width$}")?;
     }
     Ok(())
