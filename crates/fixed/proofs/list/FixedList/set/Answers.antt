@@ -1,5 +1,7 @@
+use Rattle.std.proofs.Common.{arith}
 use Rattle.std.proofs.Math.Seq.{take-set-lt}
+use Rattle.std.proofs.lemmas.Grind.{common_steps}
 use Rattle.fixed.proofs.list.FixedList.set.Goals as goal
 
-pub returns-then-place-self : goal.returns-then-place-self
-returns-then-place-self g c = take-set-lt c.args.self.now.len c.args.self.now.items c.args.place c.args.item c.if-place-self.true
+pub returns-then-place-self-clause-items : goal.returns-then-place-self-clause-items
+returns-then-place-self-clause-items g c = grind (arith, common_steps, take-set-lt)
