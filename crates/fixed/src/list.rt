@@ -140,6 +140,7 @@ impl<T: Copy, const N: usize> FixedList<T, N> {
     }
 
     // Puts an item at a place, counted from 0, where there is one.
+    #[tactic(auto, using(crate::proofs::Pushed::front_set))]
     pub fn set(&mut self, place: usize, item: T)
         ensures items { entries self.new ≡ slice_set (entries self.old) place item }
         ensures table { self.new.items ≡ (if nat_lt place self.old.len then slice_set self.old.items place item else self.old.items) }
