@@ -1,13 +1,10 @@
-use Rattle.std.proofs.Common.{◌≡◌, List, Ok, map, length, sym, ap, ◌∙◌, rules}
+use Rattle.std.proofs.Common.{◌≡◌, List, Ok, map, sym, ap, ◌∙◌, rules}
 use Rattle.std.proofs.lemmas.Result.{MatchResult-at_ok}
 use Rattle.fixed.specs.Lists.{entries, padded}
-use Rattle.fixed.proofs.Padding.{length_entries}
-use lib.ListN.{length-map}
 use Rattle.terms.specs.Tables.{Table}
 use Rattle.primes.specs.declared.need.Need.{Need}
 use Rattle.primes.specs.Primes.{primes}
-use Rattle.primes.specs.Needs.{needs}
-use Rattle.primes.specs.Records.{no_prime, fresh, record_of}
+use Rattle.primes.specs.Records.{no_prime, fresh}
 use Rattle.primes.proofs.Listed.{primes_listed, primes_rising}
 use Rattle.primes.proofs.Gathering.{terms_found, records_found, primes_fit, few_enough}
 use Rattle.primes.proofs.listing.primes.Goals as goal
@@ -44,17 +41,6 @@ returns-clause-whole g c =
     rw (few_enough tb (primes_fit ds (primes tb) c.in_ok-found.found e))
     (c.mark_essentials.ensures.tidy
     ∙ ap (padded 256 no_prime) (records_found tb c.args.work c.in_ok-found.found c.mark_essentials.new.list e c.list_needs-needs.ensures.items c.mark_essentials.ensures.items))
-
-pub returns-clause-count : goal.returns-clause-count
-returns-clause-count g c =
-    let tb : Table = g.S.Source.meaning c.args.source.now in
-    let ds : List Need = entries c.list_needs-needs.result in
-    let is : c.find_primes.result ≡ Ok c.in_ok-found.found = search rules in
-    let e : entries c.in_ok-found.found ≡ map (fresh ds) (primes tb) = MatchResult-at_ok _ _ c.in_ok-found.found is c.find_primes.ensures.items in
-    rw (few_enough tb (primes_fit ds (primes tb) c.in_ok-found.found e))
-    (sym (length_entries c.mark_essentials.new.list)
-    ∙ ap length (records_found tb c.args.work c.in_ok-found.found c.mark_essentials.new.list e c.list_needs-needs.ensures.items c.mark_essentials.ensures.items)
-    ∙ length-map (primes tb) (record_of (primes tb) (needs tb c.args.work)))
 
 pub returns-clause-listed : goal.returns-clause-listed
 returns-clause-listed g c = primes_listed
