@@ -15,18 +15,18 @@ pub struct PrimeChart {
 }
 
 impl PrimeChart {
-    // The prime of a column, of which there can be 256; past the last of fewer, the term that reads no input.
+    // The prime of a column, of which there can be 256: the term that stands in the table there, in the list or behind it.
     pub fn term(&self, column: usize) -> Term
         ensures { result ≡ prime_at self.now.list column }
     {
-        self.list.get(column.min(255)).unwrap_or_default().term
+        self.list.table()[column.min(255)].term
     }
 
-    // The need of a number, of which there can be 1,280; past the last of fewer, the row 0.
+    // The need of a number, of which there can be 1,280: what stands in the table there, in the list or behind it.
     fn need(&self, number: usize) -> Need
         ensures { result ≡ need_at self.now.needs number }
     {
-        self.needs.get(number.min(1279)).unwrap_or_default()
+        self.needs.table()[number.min(1279)]
     }
 }
 

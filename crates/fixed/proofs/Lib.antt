@@ -1,2 +1,3 @@
 pub mod Members
 pub mod Pushed
+pub mod Padding

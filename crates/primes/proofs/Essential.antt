@@ -7,13 +7,12 @@ use Rattle.std.proofs.Math.Bool.{or-false, or-true, or_assoc}
 use Rattle.std.proofs.lemmas.List.Quantifiers.{position-Some}
 use Rattle.std.proofs.lemmas.Bool.{cases_eq, cases_Bool, eq-eqb, eqb-true, ltb-false, ne_eqb, and_left, and_right, and_from}
 use Rattle.terms.specs.declared.term.Term.{Term}
-use Rattle.fixed.specs.declared.list.FixedList.{FixedList}
 use Rattle.fixed.specs.Lists.{entries}
 use Rattle.terms.specs.Terms.{number}
 use Rattle.primes.specs.declared.need.Need.{Need}
 use Rattle.primes.specs.declared.prime.Prime.{Prime}
 use Rattle.primes.specs.Needs.{meets}
-use Rattle.primes.specs.Records.{held, holders, is_essential, no_prime, record_meets, sole_place}
+use Rattle.primes.specs.Records.{PrimeList, held, holders, is_essential, no_prime, record_meets, sole_place}
 
 pub length_kept_map : {A B : Type 0} (q : B → Bool) (f : A → B) (xs : List A) → length (filter q (map f xs)) ≡ length (filter (λ x. q (f x)) xs)
 length_kept_map q f [] = refl
@@ -185,10 +184,10 @@ module _ (ps : List Term) (ds : List Need) (k : ℕ) (d₀ : Need) (h : k < leng
       ])
 
 -- ---- the list, need by need
-abbrev pub Noting : List Term → List Need → ℕ → FixedList Prime 256 → Type 0
+abbrev pub Noting : List Term → List Need → ℕ → PrimeList → Type 0
 Noting ps ds k l = entries l ≡ map (noted ps ds (take k ds)) ps
 
-module _ (ps : List Term) (ds : List Need) (k : ℕ) (d₀ : Need) (h : k < length ds) (l : FixedList Prime 256) (inv : Noting ps ds k l) where
+module _ (ps : List Term) (ds : List Need) (k : ℕ) (d₀ : Need) (h : k < length ds) (l : PrimeList) (inv : Noting ps ds k l) where
   holders_in : length (filter (record_meets (get_or ds k d₀)) (entries l)) ≡ holders ps (get_or ds k d₀)
   holders_in =
       ap (λ (rs : List Prime). length (filter (record_meets (get_or ds k d₀)) rs)) inv
@@ -197,7 +196,7 @@ module _ (ps : List Term) (ds : List Need) (k : ℕ) (d₀ : Need) (h : k < leng
   pub noting_none : (length (filter (record_meets (get_or ds k d₀)) (entries l)) ≡ 1 → ⊥) → Noting ps ds (k + 1) l
   noting_none z = inv ∙ noted_none ps ds k d₀ h (λ q. z (holders_in ∙ q))
 
-  pub noting_sole : (m : FixedList Prime 256) (at : ℕ) (r : Prime) → at < length (entries l) → record_meets (get_or ds k d₀) (get_or (entries l) at no_prime) ≡ true
+  pub noting_sole : (m : PrimeList) (at : ℕ) (r : Prime) → at < length (entries l) → record_meets (get_or ds k d₀) (get_or (entries l) at no_prime) ≡ true
       → length (filter (record_meets (get_or ds k d₀)) (entries l)) ≡ 1
       → r ≡ record { term = (get_or (entries l) at no_prime).term; number = (get_or (entries l) at no_prime).number; needs = (get_or (entries l) at no_prime).needs; essential = true }
       → entries m ≡ set (entries l) at r → Noting ps ds (k + 1) m

@@ -1,5 +1,5 @@
 -- Lists of needs that grow by what a test keeps of the candidates.
-use Rattle.std.proofs.Common.{◌≡◌, ℕ, zero, suc, ◌+◌, ◌≤◌, Bool, true, false, not, cond, eqb, leb, List, [], ◌∷◌, ◌++◌, map, length, take, filter, sym, refl, ap, ◌∙◌, append_assoc, append-nil, add-one, arith, take_all}
+use Rattle.std.proofs.Common.{◌≡◌, ℕ, zero, suc, ◌+◌, ◌≤◌, Bool, true, false, not, cond, eqb, leb, List, [], ◌∷◌, ◌++◌, map, length, take, filter, sym, refl, ap, ◌∙◌, ap₂, append_assoc, append-nil, add-one, arith, take_all}
 use Rattle.std.specs.List.{flat_map, range_with_len}
 use Rattle.std.proofs.lemmas.Grind.{flat_map-append}
 use Rattle.std.proofs.lemmas.List.{map-append}
@@ -7,7 +7,6 @@ use Rattle.std.proofs.lemmas.List.Elements.{filter-append}
 use Rattle.std.proofs.lemmas.List.Filters.{length-filter_both}
 use Rattle.std.proofs.lemmas.List.FromFn.{map-range_with_len_more}
 use Rattle.std.proofs.lemmas.Bool.{leb-true}
-use Rattle.fixed.specs.declared.list.FixedList.{FixedList}
 use Rattle.fixed.specs.Lists.{entries, entries_fit, pushed}
 use Rattle.fixed.proofs.Pushed.{pushed_taken}
 use Rattle.terms.specs.Terms.{bit}
@@ -16,7 +15,7 @@ use Rattle.terms.proofs.Bytes.{below, below_at}
 use Rattle.primes.specs.declared.need.Need.{Need}
 use Rattle.primes.specs.declared.need.Work.{Work}
 use Rattle.primes.specs.declared.need.Work.TheVariants.{Plain, HazardFree}
-use Rattle.primes.specs.Needs.{row_need, row_needs, pair_need, pairs_at, pairs, candidates, is_needed, needs, added}
+use Rattle.primes.specs.Needs.{NeedList, row_need, row_needs, pair_need, pairs_at, pairs, candidates, is_needed, needs, added}
 
 -- ---- the needs that go in
 take_take : {T : Type 0} (n : ℕ) (xs ys : List T) → take n (take n xs ++ ys) ≡ take n (xs ++ ys)
@@ -25,14 +24,14 @@ take_take (suc n) [] ys = refl
 take_take (suc n) (x ∷ xs) ys = ap (λ zs. x ∷ zs) (take_take n xs ys)
 
 module _ (tb : Table) where
-  pub added_none : (l : FixedList Need 1280) → entries l ≡ added tb (entries l) []
+  pub added_none : (l : NeedList) → entries l ≡ added tb (entries l) []
   added_none l = sym (ap (take 1280) (append-nil (entries l)) ∙ take_all 1280 (entries l) (entries_fit l))
 
-  pub added_yes : (l : FixedList Need 1280) (d : Need) → is_needed tb d ≡ true → pushed 1280 (entries l) d ≡ added tb (entries l) (d ∷ [])
+  pub added_yes : (l : NeedList) (d : Need) → is_needed tb d ≡ true → pushed 1280 (entries l) d ≡ added tb (entries l) (d ∷ [])
   added_yes l d e =
       pushed_taken 1280 (entries l) d (entries_fit l) ∙ ap (λ (b : Bool). take 1280 (entries l ++ cond b (d ∷ []) [])) (sym e)
 
-  pub added_no : (l : FixedList Need 1280) (d : Need) → is_needed tb d ≡ false → entries l ≡ added tb (entries l) (d ∷ [])
+  pub added_no : (l : NeedList) (d : Need) → is_needed tb d ≡ false → entries l ≡ added tb (entries l) (d ∷ [])
   added_no l d e = added_none l ∙ ap (λ (b : Bool). take 1280 (entries l ++ cond b (d ∷ []) [])) (sym e)
 
   pub added_twice : (old xs ys : List Need) → added tb (added tb old xs) ys ≡ added tb old (xs ++ ys)
@@ -84,6 +83,10 @@ few_below HazardFree = refl
 few_candidates : (n : ℕ) (work : Work) → n ≤ 8 → length (candidates n work) ≤ 1280
 unfolding few_by
 few_candidates n work h = leb-true (length (candidates n work)) 1280 (below_at (few_by work) 9 n (few_below work) (omega arith))
+
+-- what stands behind a list of needs
+pub blank_need : (d : Need) → (d.low ≡ 0) × (d.high ≡ 0) → d ≡ row_need 0
+blank_need d e = ap₂ (λ (l h : ℕ). record { low = l; high = h }) e.0 e.1
 
 -- so all of them go in
 pub added_all : (tb : Table) (work : Work) → tb.inputs ≤ 8 → added tb [] (candidates tb.inputs work) ≡ needs tb work

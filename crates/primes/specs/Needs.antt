@@ -1,6 +1,7 @@
 -- What a cover must hold: in plain work the ON rows, in hazard-free work also every two neighbouring ON rows.
 use Rattle.std.specs.Prelude.{ℕ, ◌+◌, ◌^◌, Bool, ◌&&◌, List, ◌++◌, map, take, filter, nat_eq}
 use Rattle.std.specs.List.{flat_map, range_with_len}
+use Rattle.fixed.specs.declared.list.FixedList.{FixedList}
 use Rattle.terms.specs.declared.term.Term.{Term}
 use Rattle.terms.specs.Terms.{bit, holds}
 use Rattle.terms.specs.Tables.{Table}
@@ -8,6 +9,10 @@ use Rattle.sources.specs.Sources.{on_at}
 use Rattle.primes.specs.declared.need.Need.{Need}
 use Rattle.primes.specs.declared.need.Work.{Work}
 use Rattle.primes.specs.declared.need.Work.TheVariants.{Plain, HazardFree}
+
+-- needs, at most 1,280
+abbrev pub NeedList : Type 0
+NeedList = FixedList Need 1280
 
 -- a row by itself
 abbrev pub row_need : ℕ → Need

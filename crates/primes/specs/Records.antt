@@ -15,6 +15,10 @@ use Rattle.primes.specs.Cubes.{term_of}
 use Rattle.primes.specs.Primes.{primes}
 use Rattle.primes.specs.Needs.{needs, meets}
 
+-- primes, as records, at most 256
+abbrev pub PrimeList : Type 0
+PrimeList = FixedList Prime 256
+
 -- how many of the needs a term holds
 abbrev pub held : List Need → Term → ℕ
 held ds t = length (filter (meets t) ds)
@@ -52,7 +56,7 @@ abbrev pub primes_break : Table → Option Refusal
 primes_break tb = cond (nat_lt 256 (length (primes tb))) (Some TooManyPrimes) None
 
 -- the terms of a list's primes
-abbrev pub terms_in : FixedList Prime 256 → List Term
+abbrev pub terms_in : PrimeList → List Term
 terms_in l = map (λ p. p.term) (entries l)
 
 -- the record's term holds a need

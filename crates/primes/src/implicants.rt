@@ -17,22 +17,24 @@ pub(crate) type Numbers = FixedSet<6561>;
 pub(crate) fn judge_all<S: Source>(source: &S) -> Numbers
     ensures { (x : ℕ) → x < 3 ^ (S.Source.meaning source.now).inputs → member result x ≡ implicant_at (S.Source.meaning source.now) x }
 {
+    let inputs = source.inputs();
     let mut found = Numbers::none();
-    for x in (0..power(source.inputs())).rev() {
-        if judge(source, &found, x) {
+    for x in (0..power(inputs)).rev() {
+        if judge(source, inputs, &found, x) {
             found.insert(x);
         }
     }
     found
 }
 
-// Judges the term of one number, where the later ones are judged.
-fn judge<S: Source>(source: &S, found: &Numbers, x: usize) -> bool
+// Judges the term of one number over the source's inputs, where the later ones are judged.
+fn judge<S: Source>(source: &S, inputs: usize, found: &Numbers, x: usize) -> bool
+    requires inputs { inputs ≡ (S.Source.meaning source.now).inputs }
     requires number { x < 3 ^ (S.Source.meaning source.now).inputs }
     requires later { (y : ℕ) → x < y → y < 3 ^ (S.Source.meaning source.now).inputs → member found.now y ≡ implicant_at (S.Source.meaning source.now) y }
     ensures { result ≡ implicant_at (S.Source.meaning source.now) x }
 {
-    match unread(x, source.inputs()) {
+    match unread(x, inputs) {
         Some(i) => {
             let step = power(i);
             found.contains(x + step) && found.contains(x + 2 * step)

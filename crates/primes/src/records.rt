@@ -1,8 +1,8 @@
 // Filling the records of the prime list.
 ghost use Rattle.std.specs.Prelude.{◌≡◌, false, length, is_ok, nat_lt};
-ghost use Rattle.fixed.specs.Lists.{entries, pushed};
+ghost use Rattle.fixed.specs.Lists.{entries, pushed, Tidy};
 ghost use Rattle.primes.specs.Cubes.{term_of};
-ghost use Rattle.primes.specs.Records.{held};
+ghost use Rattle.primes.specs.Records.{held, no_prime};
 
 use crate::digits::term_at;
 use crate::need::NeedList;
@@ -12,8 +12,10 @@ use terms::Term;
 
 // Adds the term of a number, with the count of the needs that it holds, where there is room.
 pub(crate) fn push(list: &mut PrimeList, x: usize, needs: &NeedList) -> Result<(), Full>
+    requires { Tidy no_prime list.old }
     ensures room { is_ok result ≡ nat_lt (length (entries list.old)) 256 }
     ensures after { entries list.new ≡ pushed 256 (entries list.old) (record { term = term_of x; number = x; needs = held (entries needs.now) (term_of x); essential = false }) }
+    ensures tidy { Tidy no_prime list.new }
 {
     let mut prime = Prime {
         term: term_at(x),

@@ -6,7 +6,7 @@ use Rattle.primes.proofs.implicants.judge_all.Goals as goal
 
 pub loop-x-init : goal.loop-x-init
 loop-x-init g c =
-    let top = c.power-x.ensures ∙ ap (λ (k : ℕ). 3 ^ k) c.inputs.ensures in
+    let top = c.power-x.ensures ∙ ap (λ (k : ℕ). 3 ^ k) c.inputs-inputs.ensures in
     record {
       later = λ y a b. absurd (omega arith);
       below = λ y a. no_member 6561 c.none-found.result.on c.none-found.ensures y;
@@ -14,7 +14,7 @@ loop-x-init g c =
 
 pub loop-x-preserved-then-judge : goal.loop-x-preserved-then-judge
 loop-x-preserved-then-judge g c =
-    let top = c.power-x.ensures ∙ ap (λ (k : ℕ). 3 ^ k) c.inputs.ensures in
+    let top = c.power-x.ensures ∙ ap (λ (k : ℕ). 3 ^ k) c.inputs-inputs.ensures in
     let p = pow3_le (g.S.Source.meaning c.args.source.now).inputs (g.met.S.Source.proper c.args.source.now).few in
     judged_in (g.S.Source.meaning c.args.source.now) c.loop-x.x c.loop-x.found c.loop-x-test.true c.loop-x.invariant
     c.insert.new.self (omega arith) (sym c.if-judge.ensures) c.insert.ensures

@@ -1,7 +1,7 @@
 use Rattle.std.proofs.Common.{◌≡◌}
-use Rattle.fixed.specs.Lists.{entries}
-use Rattle.primes.specs.Needs.{row_needs, added}
+use Rattle.fixed.specs.Lists.{entries, Tidy}
+use Rattle.primes.specs.Needs.{row_need, row_needs, added}
 use Rattle.primes.proofs.needs.add_rows.Given as goal
 
 abbrev pub invariant-loop-row : goal.invariant-loop-row
-invariant-loop-row g l = entries l.list ≡ added (g.S.Source.meaning l.source) (entries l.initial.list) (row_needs l.row)
+invariant-loop-row g l = record { items : entries l.list ≡ added (g.S.Source.meaning l.source) (entries l.initial.list) (row_needs l.row); tidy : Tidy (row_need 0) l.list }
