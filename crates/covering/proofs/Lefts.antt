@@ -1,7 +1,7 @@
 -- The columns that are left for a need: what a chain over them says of each.
-use Rattle.std.proofs.Common.{◌≡◌, ℕ, ◌<◌, ◌≤◌, Bool, true, false, not, nat_lt, ◌&&◌, ◌||◌, cond, List, [], ◌∷◌, filter, length, Some, sym, refl, ap, ◌∙◌, subst, inl, inr, ⊎_elim, arith}
+use Rattle.std.proofs.Common.{◌≡◌, ℕ, ◌+◌, ◌<◌, ◌≤◌, Bool, true, false, not, eqb, nat_lt, ◌&&◌, ◌||◌, cond, List, [], ◌∷◌, filter, length, Some, sym, refl, ap, ◌∙◌, subst, inl, inr, ⊎_elim, arith}
 use Rattle.std.specs.List.{list_all, fold, reduce}
-use Rattle.std.proofs.lemmas.Bool.{and_parts, or_right, both_ways, cases_lt, lt-ltb, not-true, not-false}
+use Rattle.std.proofs.lemmas.Bool.{and_parts, or_right, both_ways, cases_lt, cases_order, lt-ltb, le-ltb, eq-eqb, ne_eqb, not-true, not-false}
 use Rattle.terms.specs.Lists.{In}
 use Rattle.terms.proofs.Members.{in_kept}
 use Rattle.orders.specs.Orders.{Laws}
@@ -35,6 +35,27 @@ none_kept p xs x h i = go (p x) refl
 -- a column that is there, holds the need and is not left out is left
 left_in : (g : Grid) (b : ℕ → Bool) (i c : ℕ) → c < g.width → g.held c i ≡ true → b c ≡ false → In c (left_for g b i)
 left_in g b i c l h n = in_kept (is_left g b i) c (columns g) (counting_in 0 g.width c (omega arith) (omega arith)) (ap (λ (y : Bool). not y && g.held c i) n ∙ h)
+
+-- where none of what fails one test passes another, all that pass the other pass the one
+swapped : (p q : ℕ → Bool) (xs : List ℕ) → list_all (λ x. not (q x)) (filter (λ x. not (p x)) xs) ≡ list_all p (filter q xs)
+swapped p q [] = refl
+swapped p q (x ∷ xs) = go (swapped p q xs) (p x) (q x) refl refl
+  where
+    nots : List ℕ → Bool
+    nots ys = list_all (λ y. not (q y)) ys
+
+    out : List ℕ
+    out = filter (λ y. not (p y)) xs
+
+    go : nots out ≡ list_all p (filter q xs) → (y z : Bool) → p x ≡ y → q x ≡ z → nots (cond (not y) (x ∷ out) out) ≡ list_all p (cond z (x ∷ filter q xs) (filter q xs))
+    go e true true py qz = e ∙ sym (ap (λ (w : Bool). w && list_all p (filter q xs)) py)
+    go e true false py qz = e
+    go e false true py qz = ap (λ (w : Bool). not w && nots out) qz ∙ sym (ap (λ (w : Bool). w && list_all p (filter q xs)) py)
+    go e false false py qz = ap (λ (w : Bool). not w && nots out) qz ∙ e
+
+-- no column that is taken or used is left exactly when each that is left is neither
+pub apart_either : (g : Grid) (t b u : ℕ → Bool) (i : ℕ) → list_all (λ c. not (is_left g b i c)) (filter (λ c. not (is_unused t u c)) (columns g)) ≡ list_all (is_unused t u) (left_for g b i)
+apart_either g t b u i = swapped (is_unused t u) (is_left g b i) (columns g)
 
 -- no column that is left is taken or used
 pub apart_from : (g : Grid) (t b u : ℕ → Bool) (i : ℕ) → list_all (is_unused t u) (left_for g b i) ≡ true → Apart g t b u i
@@ -115,6 +136,36 @@ left_free g t b i c unheld l h = (go (t c) refl, not-true (b c) (and_parts (not 
     go : (y : Bool) → t c ≡ y → t c ≡ false
     go false e = e
     go true e = absurd (both_ways _ (unheld_from g t i unheld c l e) (and_parts (not (b c)) (g.held c i) h).1)
+
+-- one turn more over the columns below a bound: the column j is put in where it passes
+module _ (p u : ℕ → Bool) (j k : ℕ) where
+  turn_in : p j ≡ true → (eqb j k || (u k || (nat_lt k j && p k))) ≡ (u k || (nat_lt k (j + 1) && p k))
+  turn_in e =
+      elim (cases_order k j) [
+        | inl q ↦ subst (λ (i : ℕ). (eqb j i || (u i || (nat_lt i j && p i))) ≡ (u i || (nat_lt i (j + 1) && p i))) (sym q)
+            (rw (eq-eqb j j refl, lt-ltb j (j + 1) (omega arith), e) (sym (or_right (u j) true refl)))
+        | inr o ↦ elim o [
+          | inl l ↦ rw (ne_eqb j k (λ q. omega arith), lt-ltb k j l, lt-ltb k (j + 1) (omega arith)) refl
+          | inr l ↦ rw (ne_eqb j k (λ q. omega arith), le-ltb k j (omega arith), le-ltb k (j + 1) (omega arith)) refl
+        ]
+      ]
+
+  turn_out : p j ≡ false → (u k || (nat_lt k j && p k)) ≡ (u k || (nat_lt k (j + 1) && p k))
+  turn_out e =
+      elim (cases_order k j) [
+        | inl q ↦ subst (λ (i : ℕ). (u i || (nat_lt i j && p i)) ≡ (u i || (nat_lt i (j + 1) && p i))) (sym q)
+            (rw (le-ltb j j (omega arith), lt-ltb j (j + 1) (omega arith), e) refl)
+        | inr o ↦ elim o [
+          | inl l ↦ rw (lt-ltb k j l, lt-ltb k (j + 1) (omega arith)) refl
+          | inr l ↦ rw (le-ltb k j (omega arith), le-ltb k (j + 1) (omega arith)) refl
+        ]
+      ]
+
+  pub used_in : (v w : Bool) → p j ≡ true → v ≡ (u k || (nat_lt k j && p k)) → w ≡ (eqb j k || v) → w ≡ (u k || (nat_lt k (j + 1) && p k))
+  used_in v w e h m = m ∙ ap (λ (y : Bool). eqb j k || y) h ∙ turn_in e
+
+  pub used_out : (v : Bool) → p j ≡ false → v ≡ (u k || (nat_lt k j && p k)) → v ≡ (u k || (nat_lt k (j + 1) && p k))
+  used_out v e h = h ∙ turn_out e
 
 -- what is used after a need: what was, and the columns that are left for it
 module _ (g : Grid) (b u v : ℕ → Bool) (i : ℕ) (few : g.width ≤ 256) (h : (c : ℕ) → c < 256 → v c ≡ (u c || (nat_lt c g.width && is_left g b i c))) where

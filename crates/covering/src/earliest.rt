@@ -17,9 +17,11 @@ fn split(set: &ColumnSet, j: usize) -> Node
     requires { j < 256 }
     ensures { Asks (member set.now) (taken result) (banned result) j }
 {
+    let mut taken = set.below(j);
+    taken.insert(j);
     Node {
-        taken: ColumnSet::from_fn(|k| k == j || k < j && set.contains(k)),
-        banned: ColumnSet::from_fn(|k| k < j && !set.contains(k)),
+        taken,
+        banned: ColumnSet::from_fn_below(j, |k| !set.contains(k)),
     }
 }
 

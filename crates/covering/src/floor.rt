@@ -26,8 +26,8 @@ fn is_apart<C: Chart>(chart: &C, node: &Node, used: &ColumnSet, need: usize) -> 
     ensures { result ≡ list_all (is_unused (taken node.now) (member used.now)) (left_for (C.Chart.grid chart.now) (banned node.now) need) }
 {
     (0..chart.columns())
-        .filter(|column| is_left(chart, &node.banned, need, *column))
-        .all(|column| is_unused(node, used, column))
+        .filter(|column| !is_unused(node, used, *column))
+        .all(|column| !is_left(chart, &node.banned, need, column))
 }
 
 // The cheaper of two columns; the first where they cost the same.
@@ -51,18 +51,16 @@ fn cheapest<O: CostOrder, C: Chart>(
         .reduce(|best, column| cheaper(order, chart, best, column))
 }
 
-// The used columns, and those that are left for the need.
-fn with_left<C: Chart>(chart: &C, left_out: &ColumnSet, need: usize, used: &ColumnSet) -> ColumnSet
-    ensures { (c : ℕ) → c < 256 → member result c ≡ (member used.now c || nat_lt c (C.Chart.grid chart.now).width && is_left (C.Chart.grid chart.now) (member left_out.now) need c) }
+// Marks the columns that are left for the need as used.
+fn use_columns<C: Chart>(chart: &C, left_out: &ColumnSet, need: usize, used: &mut ColumnSet)
+    ensures { (c : ℕ) → c < 256 → member used.new c ≡ (member used.old c || nat_lt c (C.Chart.grid chart.now).width && is_left (C.Chart.grid chart.now) (member left_out.now) need c) }
 {
-    ColumnSet::from_fn(
-        |column: usize| -> bool
-            ensures { result ≡ (member used.entry.now column || nat_lt column (C.Chart.grid chart.entry.now).width && is_left (C.Chart.grid chart.entry.now) (member left_out.entry.now) need column) }
-        {
-            used.contains(column)
-                || column < chart.columns() && is_left(chart, left_out, need, column)
-        },
-    )
+    // A loop: each turn may put a column into the set.
+    for column in 0..chart.columns() {
+        if is_left(chart, left_out, need, column) {
+            used.insert(column);
+        }
+    }
 }
 
 impl<O: CostOrder, C: Chart> Quest<'_, O, C> {
@@ -87,7 +85,7 @@ impl<O: CostOrder, C: Chart> Quest<'_, O, C> {
             let price = self.chart.price(self.order, column);
             low.total = self.order.join(price, low.total);
             low.size += 1;
-            used = with_left(self.chart, &node.banned, need, &used);
+            use_columns(self.chart, &node.banned, need, &mut used);
         }
         !is_fine(self.order, &low, &self.bound, self.strict)
     }

@@ -1,5 +1,5 @@
 // Sets of numbers below a bound.
-ghost use Rattle.std.specs.Prelude.{◌≡◌, ℕ, ◌<◌, true, false, ◌&&◌, length, replicate, nat_lt, slice_set};
+ghost use Rattle.std.specs.Prelude.{◌≡◌, ℕ, ◌<◌, ◌≤◌, true, false, ◌&&◌, length, replicate, nat_lt, slice_set};
 
 // Some of the numbers below N: a switch for each.
 #[derive(Clone, Copy, PartialEq, Eq, Debug)]
@@ -55,8 +55,17 @@ impl<const N: usize> FixedSet<N> {
         requires { F.IsAlwaysCallable test }
         ensures { (k : ℕ) → k < N → F.post test k (member result k) }
     {
+        FixedSet::from_fn_below(N, test)
+    }
+
+    // The numbers below n, and below N, that pass a test; no other number is asked.
+    pub fn from_fn_below<F: Fn(usize) -> bool>(n: usize, test: F) -> FixedSet<N>
+        requires { F.IsAlwaysCallable test }
+        ensures judged { (k : ℕ) → k < N → k < n → F.post test k (member result k) }
+        ensures past { (k : ℕ) → n ≤ k → member result k ≡ false }
+    {
         let mut on = [false; N];
-        for (number, has) in on.iter_mut().enumerate() {
+        for (number, has) in on[..n.min(N)].iter_mut().enumerate() {
             *has = test(number);
         }
         FixedSet { on }
@@ -66,10 +75,11 @@ impl<const N: usize> FixedSet<N> {
     pub fn below(&self, n: usize) -> FixedSet<N>
         ensures { (k : ℕ) → member result k ≡ (member self.now k && nat_lt k n) }
     {
-        FixedSet::from_fn(
+        FixedSet::from_fn_below(
+            n,
             |number: usize| -> bool
-                ensures { result ≡ (member self.entry.now number && nat_lt number n) }
-            { self.contains(number) && number < n },
+                ensures { result ≡ member self.entry.now number }
+            { self.contains(number) },
         )
     }
 }

@@ -1,10 +1,10 @@
 -- What the tests of needs and columns say, in words.
-use Rattle.std.proofs.Common.{◌≡◌, ℕ, zero, suc, ◌+◌, ◌<◌, ◌≤◌, Bool, true, false, cond, not, ◌&&◌, ◌||◌, eqb, List, [], ◌∷◌, filter, ◌⊎◌, sym, refl, ap, ◌∙◌, inl, inr, arith}
+use Rattle.std.proofs.Common.{◌≡◌, ℕ, zero, suc, ◌+◌, ◌-◌, ◌<◌, ◌≤◌, Bool, true, false, cond, not, ◌&&◌, ◌||◌, eqb, List, [], ◌∷◌, filter, ◌⊎◌, sym, refl, ap, ◌∙◌, inl, inr, arith}
 use Rattle.std.specs.List.{list_any, list_all, range_with_len}
-use Rattle.std.proofs.lemmas.Bool.{cases_eq, and_parts, or_cases, not-true, false≢true, both_ways, not_from_false, ne_eqb, eq-eqb}
+use Rattle.std.proofs.lemmas.Bool.{cases_eq, cases_order, and_parts, or_parts, or_cases, false_from_ne_true, not-true, false≢true, both_ways, not_from_false, ne_eqb, eq-eqb}
 use Rattle.charts.specs.Grids.{Grid}
 use Rattle.charts.specs.Best.{Problem, columns}
-use Rattle.charts.proofs.Holding.{any_here}
+use Rattle.charts.proofs.Holding.{any_here, any_found}
 use Rattle.reductions.specs.Spares.{needs, is_left, follows, OnlyLeft, is_implied, is_useless, stands_in, no_dearer, is_outdone, is_spare, Implied, Useless, Outdone, Spare}
 
 -- ---- tests of a row of numbers
@@ -37,6 +37,23 @@ any_at p a (suc n) h =
       | inl e ↦ (a, omega arith, e)
       | inr e ↦ let w = any_at p (a + 1) n e in let l = w.1 in (w.0, omega arith, w.2)
     ]
+
+none_at : (p : ℕ → Bool) (a n : ℕ) → list_any p (range_with_len a n) ≡ false → (i : ℕ) → a ≤ i → i < a + n → p i ≡ false
+none_at p a zero h i l u = absurd (omega arith)
+none_at p a (suc n) h i l u =
+    let w = or_parts (p a) (list_any p (range_with_len (a + 1) n)) h in
+    elim (cases_eq a i) [ inl e ↦ sym (ap p e) ∙ w.0 | inr ne ↦ none_at p (a + 1) n w.1 i (omega arith) (omega arith) ]
+
+-- where none passes before a number and none after it, no other one does
+pub none_else : (p : ℕ → Bool) (c n : ℕ) → c < n → ((k : ℕ) → k < c → p k ≡ false) → list_any p (range_with_len (c + 1) (n - (c + 1))) ≡ false → list_any p (filter (λ k. not (eqb k c)) (range_with_len 0 n)) ≡ false
+none_else p c n l before after =
+    false_from_ne_true _ (λ h.
+    let w = any_found p (λ k. not (eqb k c)) 0 n h in
+    let u = w.1 in
+    elim (cases_order w.0 c) [
+      | inl e ↦ both_ways _ (not-true (eqb w.0 c) w.2) (eq-eqb w.0 c e)
+      | inr o ↦ elim o [ inl q ↦ both_ways _ (before w.0 q) w.3 | inr q ↦ both_ways _ (none_at p (c + 1) (n - (c + 1)) after w.0 (omega arith) (omega arith)) w.3 ]
+    ])
 
 -- ---- in words
 module _ (g : Grid) (b ns : ℕ → Bool) where

@@ -1,9 +1,8 @@
 // Which columns hold a need. The chart, what is left out and the need stay three parameters, here and in what asks about columns:
 // a struct of the two references would lengthen every clause, and be no plainer.
-ghost use Rattle.std.specs.Prelude.{◌≡◌, ◌<◌, ◌==◌, true, not, filter, IfSome};
-ghost use Rattle.std.specs.List.{list_any};
+ghost use Rattle.std.specs.Prelude.{◌≡◌, ℕ, ◌+◌, ◌-◌, ◌<◌, true, false, IfSome};
+ghost use Rattle.std.specs.List.{list_any, range_with_len};
 ghost use Rattle.fixed.specs.Sets.{member};
-ghost use Rattle.charts.specs.Best.{columns};
 ghost use Rattle.charts.specs.Sets.{is_held, HeldTells};
 ghost use Rattle.reductions.specs.Spares.{is_left, OnlyLeft};
 
@@ -41,15 +40,15 @@ pub(crate) fn only_column<C: Chart>(chart: &C, banned: &ColumnSet, need: usize) 
 fn first_left<C: Chart>(chart: &C, banned: &ColumnSet, need: usize) -> Option<usize>
     ensures there { IfSome result (λ c. c < (C.Chart.grid chart.now).width) }
     ensures left { IfSome result (λ c. is_left (C.Chart.grid chart.now) (member banned.now) need c ≡ true) }
+    ensures first { IfSome result (λ c. (k : ℕ) → k < c → is_left (C.Chart.grid chart.now) (member banned.now) need k ≡ false) }
 {
     (0..chart.columns()).find(|column| is_left(chart, banned, need, *column))
 }
 
-// Whether a column other than this one is left for the need.
+// Whether a column after this one is left for the need.
 fn has_another<C: Chart>(chart: &C, banned: &ColumnSet, need: usize, only: usize) -> bool
-    ensures { result ≡ list_any (is_left (C.Chart.grid chart.now) (member banned.now) need) (filter (λ c. not (c == only)) (columns (C.Chart.grid chart.now))) }
+    requires { only < (C.Chart.grid chart.now).width }
+    ensures { result ≡ list_any (is_left (C.Chart.grid chart.now) (member banned.now) need) (range_with_len (only + 1) ((C.Chart.grid chart.now).width - (only + 1))) }
 {
-    (0..chart.columns())
-        .filter(|column| *column != only)
-        .any(|column| is_left(chart, banned, need, column))
+    (only + 1..chart.columns()).any(|column| is_left(chart, banned, need, column))
 }

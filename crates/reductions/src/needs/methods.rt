@@ -17,10 +17,11 @@ pub fn open_needs<C: Chart>(chart: &C, columns: &ColumnSet) -> NeedSet
     ensures loose { (i : ℕ) → i < (C.Chart.grid chart.now).wanted → member result i ≡ true → (c : ℕ) → c < (C.Chart.grid chart.now).width → member columns.now c ≡ true → (C.Chart.grid chart.now).held c i ≡ false }
     ensures past { (i : ℕ) → (C.Chart.grid chart.now).wanted ≤ i → member result i ≡ false }
 {
-    NeedSet::from_fn(
+    NeedSet::from_fn_below(
+        chart.needs(),
         |need: usize| -> bool
-            ensures { result ≡ (nat_lt need (C.Chart.grid chart.entry.now).wanted && not (is_held (C.Chart.grid chart.entry.now) (member columns.entry.now) need)) }
-        { need < chart.needs() && !held_by(chart, columns, need) },
+            ensures { result ≡ not (is_held (C.Chart.grid chart.entry.now) (member columns.entry.now) need) }
+        { !held_by(chart, columns, need) },
     )
 }
 

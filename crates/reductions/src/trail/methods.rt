@@ -1,8 +1,8 @@
 // Moves of a search along its trail.
-ghost use Rattle.std.specs.Prelude.{◌≡◌, true, [], ◌∷◌, reverse, if◌then◌else◌};
+ghost use Rattle.std.specs.Prelude.{◌≡◌, ℕ, true, [], ◌∷◌, reverse, if◌then◌else◌};
 ghost use Rattle.fixed.specs.Lists.{entries};
 ghost use Rattle.fixed.specs.Sets.{member};
-ghost use Rattle.reductions.specs.Steps.{step, is_free, is_fresh, owes, backed};
+ghost use Rattle.reductions.specs.Steps.{step, taken_by, banned_by, is_free, is_fresh, owes, backed};
 ghost use Rattle.reductions.specs.Trails.{steps_of, taken, banned};
 
 use crate::node::Node;
@@ -47,33 +47,41 @@ impl Trail {
         ensures owed { result ≡ owes (steps_of self.old) }
         ensures steps { steps_of self.new ≡ backed (steps_of self.old) }
     {
-        let mut steps = self.steps;
-        while let Some(last) = steps.pop() {
-            if last.decided {
-                let turned = Step {
-                    takes: false,
-                    decided: false,
-                    ..last
-                };
-                steps.push(turned).unwrap();
-                *self = replay(self.root, steps);
-                return true;
-            }
-        }
-        *self = Trail::new(&self.root);
-        false
+        let Trail { root, steps, node } = self;
+        let turned = turn_last(steps);
+        *node = replay(root, steps.as_slice());
+        turned
     }
 }
 
-// The trail of the steps.
-fn replay(root: Node, steps: FixedList<Step, 256>) -> Trail
-    requires fresh { is_fresh (member root.taken) (member root.banned) (reverse (entries steps)) ≡ true }
-    ensures root { result.root ≡ root }
-    ensures steps { result.steps ≡ steps }
+// Turns the last decision of the steps, and takes off what came after it; with none left no step is left, and that is told.
+fn turn_last(steps: &mut FixedList<Step, 256>) -> bool
+    ensures owed { result ≡ owes (reverse (entries steps.old)) }
+    ensures left { reverse (entries steps.new) ≡ backed (reverse (entries steps.old)) }
 {
-    let mut node = root;
-    for step in steps.as_slice() {
+    while let Some(last) = steps.pop() {
+        if last.decided {
+            let turned = Step {
+                takes: false,
+                decided: false,
+                ..last
+            };
+            steps.push(turned).unwrap();
+            return true;
+        }
+    }
+    false
+}
+
+// The node that the steps lead to.
+fn replay(root: &Node, steps: &[Step]) -> Node
+    requires fresh { is_fresh (member root.now.taken) (member root.now.banned) (reverse steps.now) ≡ true }
+    ensures taken { (k : ℕ) → member result.taken k ≡ taken_by (member root.now.taken) (reverse steps.now) k }
+    ensures banned { (k : ℕ) → member result.banned k ≡ banned_by (member root.now.banned) (reverse steps.now) k }
+{
+    let mut node = *root;
+    for step in steps {
         node.mark(step.column, step.takes);
     }
-    Trail { root, steps, node }
+    node
 }

@@ -32,8 +32,8 @@ loop-need-preserved g c =
     let few = (g.met.C.Chart.small c.args.self.now.chart.now).few in
     let li : c.loop-need.need < m.wanted = omega (arith, c.needs-need-end.ensures) in (
       floor_more (problem (o.meaning me) m) (o.laws me) c.args.self.now.strict (member c.args.self.now.bound.set) (taken n) (banned n)
-          (member c.loop-need.used) (member c.with_left-used.result) (o.exact me low.total) (o.exact me c.price-price.result) (o.exact me c.join-low.result) low.size c.loop-need.need c.in-Some.column
-          c.loop-need.invariant.0 c.if-low-ge256.false li c.price-price.ensures (apart_from m (taken n) (banned n) (member c.loop-need.used) c.loop-need.need (sym c.if-not-is_apart.ensures)) (cheapest_from (problem (o.meaning me) m) (o.laws me) (banned n) c.loop-need.need c.in-Some.column (sym c.in-Some.ensures)) (used_marks m (banned n) (member c.loop-need.used) (member c.with_left-used.result) c.loop-need.need few c.with_left-used.ensures) (used_keeps m (banned n) (member c.loop-need.used) (member c.with_left-used.result) c.loop-need.need few c.with_left-used.ensures (none_past 256 c.loop-need.used)) c.join-low.ensures.exact,
+          (member c.loop-need.used) (member c.use_columns.new.used) (o.exact me low.total) (o.exact me c.price-price.result) (o.exact me c.join-low.result) low.size c.loop-need.need c.in-Some.column
+          c.loop-need.invariant.0 c.if-low-ge256.false li c.price-price.ensures (apart_from m (taken n) (banned n) (member c.loop-need.used) c.loop-need.need (sym c.if-not-is_apart.ensures)) (cheapest_from (problem (o.meaning me) m) (o.laws me) (banned n) c.loop-need.need c.in-Some.column (sym c.in-Some.ensures)) (used_marks m (banned n) (member c.loop-need.used) (member c.use_columns.new.used) c.loop-need.need few c.use_columns.ensures) (used_keeps m (banned n) (member c.loop-need.used) (member c.use_columns.new.used) c.loop-need.need few c.use_columns.ensures (none_past 256 c.loop-need.used)) c.join-low.ensures.exact,
       omega arith,
     )
 

@@ -7,6 +7,6 @@ use Rattle.reductions.proofs.trail.methods.replay.Given as goal
 abbrev pub invariant-loop-step : goal.invariant-loop-step
 invariant-loop-step l =
     record {
-      taken : (k : ℕ) → member l.node.taken k ≡ taken_by (member l.root.taken) (reverse (take l.step-index l.step-items)) k;
-      banned : (k : ℕ) → member l.node.banned k ≡ banned_by (member l.root.banned) (reverse (take l.step-index l.step-items)) k;
+      taken : (k : ℕ) → member l.node.taken k ≡ taken_by (member l.root.taken) (reverse (take l.step-index l.steps)) k;
+      banned : (k : ℕ) → member l.node.banned k ≡ banned_by (member l.root.banned) (reverse (take l.step-index l.steps)) k;
     }

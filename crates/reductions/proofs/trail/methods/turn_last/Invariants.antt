@@ -1,16 +1,14 @@
 use Rattle.std.proofs.Common.{◌≡◌, reverse, length}
 use Rattle.fixed.specs.Lists.{entries}
 use Rattle.reductions.specs.Steps.{owes, backed}
-use Rattle.reductions.specs.Trails.{steps_of}
-use Rattle.reductions.proofs.trail.Trail.back_up.Given as goal
+use Rattle.reductions.proofs.trail.methods.turn_last.Given as goal
 
 -- what came off decided nothing
 abbrev pub invariant-loop-last : goal.invariant-loop-last
 invariant-loop-last l =
     record {
-      self : l.self ≡ l.initial.self;
-      owed : owes (reverse (entries l.steps)) ≡ owes (steps_of l.self);
-      left : backed (reverse (entries l.steps)) ≡ backed (steps_of l.self);
+      owed : owes (reverse (entries l.steps)) ≡ owes (reverse (entries l.initial.steps));
+      left : backed (reverse (entries l.steps)) ≡ backed (reverse (entries l.initial.steps));
     }
 
 abbrev pub decreases-loop-last : goal.decreases-loop-last
