@@ -36,11 +36,11 @@ impl Chart for PrimeChart {
     ghost small = { λ c. prime_grid_small c.list c.needs };
 
     fn columns(&self) -> usize {
-        self.list.len()
+        self.list.len().min(256)
     }
 
     fn needs(&self) -> usize {
-        self.needs.len()
+        self.needs.len().min(1280)
     }
 
     fn holds(&self, column: usize, need: usize) -> bool {

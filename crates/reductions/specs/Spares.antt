@@ -1,9 +1,14 @@
 -- Which needs and columns a node can do without.
 use Rattle.std.specs.Prelude.{◌≡◌, ℕ, ◌<◌, Bool, true, false, not, ◌&&◌, ◌||◌, ◌⊎◌, List, filter, ◌==◌}
 use Rattle.std.specs.List.{list_any, list_all, range_with_len}
+use Rattle.fixed.specs.declared.set.FixedSet.{FixedSet}
 use Rattle.charts.specs.Grids.{Grid}
 use Rattle.charts.specs.Best.{Problem, columns}
 use Rattle.charts.specs.Sets.{Held}
+
+-- a set of needs: a chart has at most 1,280
+abbrev pub NeedSet : Type 0
+NeedSet = FixedSet 1280
 
 -- the needs of a chart, in order
 abbrev pub needs : Grid → List ℕ
