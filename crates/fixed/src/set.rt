@@ -50,6 +50,15 @@ impl<const N: usize> FixedSet<N> {
         }
     }
 
+    // Puts a number into the set, or takes it out, where it is below N: a write and no branch.
+    pub fn put(&mut self, number: usize, has: bool)
+        ensures { self.new.on ≡ slice_set self.old.on number has }
+    {
+        if number < N {
+            self.on[number] = has;
+        }
+    }
+
     // The numbers below N that pass a test.
     pub fn from_fn<F: Fn(usize) -> bool>(test: F) -> FixedSet<N>
         requires { F.IsAlwaysCallable test }
@@ -64,11 +73,12 @@ impl<const N: usize> FixedSet<N> {
         ensures judged { (k : ℕ) → k < N → k < n → F.post test k (member result k) }
         ensures past { (k : ℕ) → n ≤ k → member result k ≡ false }
     {
-        let mut on = [false; N];
-        for (number, has) in on[..n.min(N)].iter_mut().enumerate() {
-            *has = test(number);
+        let mut set = FixedSet::none();
+        // A loop: each turn writes one place of the set, which stays where it is.
+        for number in 0..n.min(N) {
+            set.put(number, test(number));
         }
-        FixedSet { on }
+        set
     }
 
     // The members below n.

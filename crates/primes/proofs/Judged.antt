@@ -62,6 +62,18 @@ module _ (tb : Table) (x : ℕ) (s : FixedSet 6561) (some : 0 < x) (j : JudgedFr
         below = λ y a. same y (λ w. omega arith) ∙ j.below y (omega arith);
       }
 
+  pub judged_put : (t : FixedSet 6561) (v : Bool) → x ≤ 6561 → v ≡ implicant_at tb (x - 1) → t.on ≡ set s.on (x - 1) v → JudgedFrom tb (x - 1) t
+  judged_put t v few e q =
+      let at : x - 1 < length s.on = omega (arith, s.full) in
+      let same : (y : ℕ) → (y ≡ x - 1 → ⊥) → member t y ≡ member s y = λ y z. ap (λ (ys : List Bool). get_or ys y false) q ∙ get_or-set_other s.on (x - 1) y v false z in
+      record {
+        later = λ y a b. ⊎_elim
+            (λ w. ap₂ (λ (ys : List Bool) (z : ℕ). get_or ys z false) q w ∙ get_or-set_same s.on (x - 1) v false at ∙ e ∙ sym (ap (implicant_at tb) w))
+            (λ z. same y z ∙ j.later y (omega arith) b)
+            (cases_eq y (x - 1));
+        below = λ y a. same y (λ w. omega arith) ∙ j.below y (omega arith);
+      }
+
   pub judged_out : implicant_at tb (x - 1) ≡ false → JudgedFrom tb (x - 1) s
   judged_out e =
       record {

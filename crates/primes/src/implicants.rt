@@ -20,9 +20,8 @@ pub(crate) fn judge_all<S: Source>(source: &S) -> Numbers
     let inputs = source.inputs();
     let mut found = Numbers::none();
     for x in (0..power(inputs)).rev() {
-        if judge(source, inputs, &found, x) {
-            found.insert(x);
-        }
+        let is_implicant = judge(source, inputs, &found, x);
+        found.put(x, is_implicant);
     }
     found
 }
